@@ -1,0 +1,4 @@
+pub mod Numbered
+pub mod Puts
+pub mod Items
+pub mod Tapes
