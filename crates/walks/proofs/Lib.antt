@@ -1,1 +1,5 @@
 pub mod Few
+pub mod Rows
+pub mod Lawful
+pub mod Totals
+pub mod Bound
