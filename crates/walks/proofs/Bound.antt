@@ -26,7 +26,7 @@ use Rattle.walks.proofs.Few.{few}
 use Rattle.walks.proofs.Totals.{time-is-sum, handovers-are-sum}
 
 -- a run that is not struck was laid
-laid : (m : List Run) (r : ℕ) → run-at m r .struck ≡ false → r < length m
+pub laid : (m : List Run) (r : ℕ) → run-at m r .struck ≡ false → r < length m
 laid m r h = elim (cases-lt r (length m)) [
   | inl lt ↦ lt
   | inr ge ↦ absurd (both-ways (run-at m r .struck) h (ap (λ (x : Run). x .struck) (getD-past m r not-laid ge)))

@@ -3,3 +3,5 @@ pub mod Rows
 pub mod Lawful
 pub mod Totals
 pub mod Bound
+pub mod Net
+pub mod Ways

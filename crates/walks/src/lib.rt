@@ -3,6 +3,7 @@ pub mod by_point;
 pub mod flat;
 pub mod hand_overs;
 pub mod kind;
+pub mod labels;
 pub mod refusal;
 pub mod rule;
 pub mod setting;
