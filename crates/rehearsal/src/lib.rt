@@ -7,5 +7,4 @@ pub fn cases_stand()
     ensures cases { λ _. ⌜ Each-holds cases ⌝ }
     ensures beginning { λ _. ⌜ Not-the-beginning ⌝ }
     ensures twice { λ _. ⌜ Passes-twice ⌝ }
-{
-}
+{}

@@ -8,12 +8,10 @@ pub fn sums_stand()
     ensures time { λ _. ⌜ Time-is-sum ⌝ }
     ensures strain { λ _. ⌜ Strain-is-largest ⌝ }
     ensures handovers { λ _. ⌜ Handovers-are-sum ⌝ }
-{
-}
+{}
 
 /// A walk over a rig's map that repeats no run takes at most 33,488,130 tenths, so neither sum is stopped.
 pub fn no_stop_met()
     ensures rig { λ _. ⌜ No-stop-met ⌝ }
     ensures calls { λ _. ⌜ No-stop-after-calls ⌝ }
-{
-}
+{}
