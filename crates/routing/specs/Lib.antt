@@ -2,3 +2,5 @@ pub mod Refusals
 pub mod Tables
 pub mod Survey
 pub mod Route
+pub mod Offers
+pub mod Chains

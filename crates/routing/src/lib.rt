@@ -1,2 +1,4 @@
+pub mod board;
+pub mod follow;
 pub mod place;
 pub mod refusal;

@@ -1,0 +1,4 @@
+pub mod Places
+pub mod Points
+pub mod Offers
+pub mod Chains
