@@ -5,9 +5,11 @@ use mathlib.Core.Logic.{_⊎_, inl, inr}
 use mathlib.Core.List.{List}
 use Prim.Native.Nat.{ℕ, _<_, _+_}
 use native.Mathlib.Omega.{arith}
+use lib.ListN.{length, set}
 use Rattle.std.specs.declared.option.Option.{Option}
 use Rattle.std.specs.declared.option.Option.the-variants.{Some, None}
-use Rattle.std.proofs.shelf.Tests.{cases-lt, both-ways}
+use Rattle.std.proofs.shelf.Lists.{getD-set-same, getD-set-other}
+use Rattle.std.proofs.shelf.Tests.{cases-lt, cases-eq, both-ways}
 use Rattle.track.specs.declared.run.Run.{Run}
 use Rattle.walks.specs.Kinds.{Kind, Lawful, Le}
 use Rattle.walks.specs.Walks.{run-at}
@@ -72,3 +74,12 @@ module _ {C : Type 0} (k : Kind C) (laws : Lawful k) (m : List Run) (t : List (P
       go false gt =
           let up : Le k c d = elim (laws .total d c) [ inl le ↦ absurd (both-ways (k .at-most d c) gt le) | inr le ↦ le ] in
           take-up n c b into is (λ q a e lt i at. laws .trans c d a up (best .lowest q a e lt i at))
+
+-- the same for every point of a board at once
+module _ {C : Type 0} (k : Kind C) (laws : Lawful k) (m : List Run) (t b : List (Place C)) (n : ℕ) where
+  pub board-more : (h : ℕ) (p q x : Place C) → h < length b → run-at m n .head ≡ h → place b h ≡ p → place t n ≡ q → x ≡ lower k p n q
+      → ((v : ℕ) → v < length b → Best-into k m t n v (place b v)) → (v : ℕ) → v < length b → Best-into k m t (n + 1) v (place (set b h x) v)
+  board-more h p q x lt head is-p is-q new best v within = elim (cases-eq v h) [
+    | inl e ↦ subst (Best-into k m t (n + 1) v) (sym (ap (place (set b h x)) e ∙ getD-set-same b h x Absent lt ∙ new)) (best-more k laws m t v n p q (head ∙ sym e) is-q (subst (Best-into k m t n v) (ap (place b) e ∙ is-p) (best v within)))
+    | inr ne ↦ subst (Best-into k m t (n + 1) v) (sym (getD-set-other b h v x Absent ne)) (best-past k laws m t v n (place b v) (λ e. ne (sym e ∙ head)) (best v within))
+  ]

@@ -4,11 +4,11 @@ use mathlib.Core.Bool.{false}
 use mathlib.Core.Logic.{inl, inr}
 use mathlib.Core.List.{List, [], _∷_}
 use Prim.Native.Nat.{ℕ, _<_}
-use lib.ListN.{length}
+use lib.ListN.{length, set}
 use Rattle.std.specs.declared.option.Option.{Option}
 use Rattle.std.specs.declared.option.Option.the-variants.{Some, None}
-use Rattle.std.proofs.shelf.Lists.{getD-past}
-use Rattle.std.proofs.shelf.Tests.{cases-lt, both-ways}
+use Rattle.std.proofs.shelf.Lists.{getD-past, getD-set-same, getD-set-other}
+use Rattle.std.proofs.shelf.Tests.{cases-lt, cases-eq, both-ways}
 use Rattle.track.specs.declared.run.Run.{Run}
 use Rattle.walks.specs.Kinds.{Kind, Lawful, Le, Fits}
 use Rattle.walks.specs.Rules.{Rule}
@@ -58,8 +58,12 @@ ending m q (r ∷ w) b up (up′, tail, on) = ending m r w b up′ on
 
 module _ {C : Type 0} (k : Task C) (laws : Lawful (k .kind)) where
   -- the empty walk is a cheapest one to the home
-  pub at-home : Cheapest k (Leads-to k (k .home)) [] (k .kind .start)
-  at-home = record { among = (refl, tt); costs = refl; least = λ w leads. start-least (k .kind) laws (k .rule) (k .runs) w }
+  at-home : (v : ℕ) → v ≡ k .home → Cheapest k (Leads-to k v) [] (k .kind .start)
+  at-home v home = record { among = (sym home, tt); costs = refl; least = λ w leads. start-least (k .kind) laws (k .rule) (k .runs) w }
+
+  -- so the home's place on the board is the start, reached by no run
+  pub home-place : (t : List (Place C)) (v : ℕ) (c : C) → v ≡ k .home → c ≡ k .kind .start → Board-place k t v (Reached c None)
+  home-place t v c home start = (([], subst (Cheapest k (Leads-to k v) []) (sym start) (at-home v home)), (home, start))
 
   -- a legal walk to another point ends with a run that was laid and whose head is that point
   ends-with : (v : ℕ) → (v ≡ k .home → ⊥) → (w : List ℕ) → Leads-to k v w → (r : ℕ) × (r < length (k .runs)) × (run-at (k .runs) r .head ≡ v) × Ends-with k r w
@@ -88,12 +92,21 @@ module _ {C : Type 0} (k : Task C) (laws : Lawful (k .kind)) where
         ]
 
     -- so the best place that the runs offer v is its place on the board
-    pub on-board : (p : Place C) → Best-into (k .kind) (k .runs) t (length (k .runs)) v p → Board-place k t v p
-    on-board Absent none = no-way none
-    on-board (Reached c None) none = absurd none
-    on-board (Reached c (Some r)) best =
+    pub best-place : (p : Place C) → Best-into (k .kind) (k .runs) t (length (k .runs)) v p → Board-place k t v p
+    best-place Absent none = no-way none
+    best-place (Reached c None) none = absurd none
+    best-place (Reached c (Some r)) best =
         let found : Table-place k t r (Reached c (best .label .0)) = subst (Table-place k t r) (best .label .1) (holds r (best .among)) in
         let way = found .1 in (
           (found .0, record { among = subst (λ (b : ℕ). Leads-to k b (found .0)) (best .into) (way .among .1); costs = way .costs; least = least c (best .lowest) }),
           (away, best .into, best .label),
         )
+
+  -- the best places that the runs offer, and then the home's, make a board
+  pub board-holds : (t b : List (Place C)) (c : C) (n : ℕ) → Table-holds k t → k .home < length b → c ≡ k .kind .start
+      → ((v : ℕ) → v < n → Best-into (k .kind) (k .runs) t (length (k .runs)) v (place b v))
+      → (v : ℕ) → v < n → Board-place k t v (place (set b (k .home) (Reached c None)) v)
+  board-holds t b c n holds room start best v lt = elim (cases-eq v (k .home)) [
+    | inl home ↦ subst (Board-place k t v) (sym (ap (place (set b (k .home) (Reached c None))) home ∙ getD-set-same b (k .home) (Reached c None) Absent room)) (home-place t v c home start)
+    | inr away ↦ subst (Board-place k t v) (sym (getD-set-other b (k .home) v (Reached c None) Absent away)) (best-place t holds v away (place b v) (best v lt))
+  ]

@@ -3,9 +3,11 @@ use mathlib.Core.Path.{_≡_}
 use mathlib.Core.Bool.{cond}
 use mathlib.Core.List.{List}
 use Prim.Native.Nat.{ℕ, _<_}
+use lib.ListN.{length, getD}
 use Rattle.std.specs.declared.option.Option.{Option}
 use Rattle.std.specs.declared.option.Option.the-variants.{Some, None}
 use Rattle.track.specs.declared.run.Run.{Run}
+use Rattle.track.specs.Runs.{idle}
 use Rattle.walks.specs.Kinds.{Kind, Le}
 use Rattle.walks.specs.Walks.{run-at}
 use Rattle.routing.specs.declared.place.Place.{Place}
@@ -34,3 +36,7 @@ abbrev pub Best-into : {C : Type 0} → Kind C → List Run → List (Place C) �
 Best-into k m t n v Absent = (r : ℕ) → r < n → run-at m r .head ≡ v → place t r ≡ Absent
 Best-into k m t n v (Reached c None) = ⊥
 Best-into k m t n v (Reached c (Some r)) = Best-run k m t n v c r
+
+-- every run leads to one of the points below n
+abbrev pub Heads-below : List Run → (n : ℕ) → Type 0
+Heads-below m n = (r : ℕ) → r < length m → getD m r idle .head < n

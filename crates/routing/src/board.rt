@@ -3,11 +3,10 @@ ghost use Prim.Native.Nat.{ℕ, _<_, _≤_};
 ghost use lib.ListN.{length};
 ghost use Rattle.track.specs.Sizes.{points, most-runs};
 ghost use Rattle.walks.specs.Rules.{Rule};
-ghost use Rattle.walks.specs.Walks.{run-at};
 ghost use Rattle.walks.specs.Cheapest.{task};
 ghost use Rattle.routing.specs.declared.place.Place.the-variants.{Absent};
 ghost use Rattle.routing.specs.Tables.{place as place-at, Table-holds, Board-place, Board-holds};
-ghost use Rattle.routing.specs.Offers.{lower as lower-place, Best-into};
+ghost use Rattle.routing.specs.Offers.{lower as lower-place, Best-into, Heads-below};
 use crate::place::Place;
 use track::run::Run;
 use walks::kind::CostKind;
@@ -105,7 +104,7 @@ fn offer_runs<K: CostKind>(
     board: &mut [Place<K::Cost>],
 )
     requires laid { ⌜ length (now table) ≡ length (now runs) ⌝ ∗ ⌜ length (now runs) ≤ most-runs ⌝ }
-    requires heads { ⌜ ((r : ℕ) → r < length (now runs) → run-at (now runs) r .head < length (now board)) ⌝ }
+    requires heads { ⌜ Heads-below (now runs) (length (now board)) ⌝ }
     requires cleared { ⌜ ((v : ℕ) → place-at (now board) v ≡ Absent) ⌝ }
     ensures { λ _. ⌜ ((v : ℕ) → v < length (now (board .entry)) → Best-into (K·CostKind .meaning (now (kind .entry))) (now (runs .entry)) (now (table .entry)) (length (now (runs .entry))) v (place-at (now (board .exit)) v)) ⌝ }
 {
@@ -124,7 +123,7 @@ pub(crate) fn fill_board<K: CostKind>(
     board: &mut [Place<K::Cost>],
 )
     requires laid { ⌜ length (now table) ≡ length (now runs) ⌝ ∗ ⌜ length (now runs) ≤ most-runs ⌝ }
-    requires heads { ⌜ ((r : ℕ) → r < length (now runs) → run-at (now runs) r .head < points) ⌝ }
+    requires heads { ⌜ Heads-below (now runs) points ⌝ }
     requires room { ⌜ length (now board) ≡ points ⌝ ∗ ⌜ home < points ⌝ }
     ensures { λ _. ⌜ ((t : Rule) → Table-holds (task (K·CostKind .meaning (now (kind .entry))) t (now (runs .entry)) home) (now (table .entry)) → Board-holds (task (K·CostKind .meaning (now (kind .entry))) t (now (runs .entry)) home) (now (table .entry)) (now (board .exit))) ⌝ }
 {

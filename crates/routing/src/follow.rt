@@ -35,14 +35,12 @@ fn count_back<C: Copy>(table: &[Place<C>], end: u16) -> usize
 /// Writes the walk that ends with `end`, from its last run back, over a list of just its length.
 fn write_back<C: Copy>(table: &[Place<C>], end: u16, walk: &mut [u16])
     requires { ⌜ ((w : List ℕ) × Chain (now table) end w × (length w ≡ length (now walk))) ⌝ }
-    ensures { λ _. ⌜ ((w : List ℕ) → Chain (now (table .entry)) end w → now (walk .exit) ≡ w) ⌝ }
+    ensures { λ _. ⌜ ((w : List ℕ) → Chain (now (table .entry)) end w → length w ≡ length (now (walk .entry)) → now (walk .exit) ≡ w) ⌝ }
 {
     let mut at = end;
     for i in (0..walk.len()).rev() {
         walk[i] = at;
-        if let Some(run) = run_before(table, at) {
-            at = run;
-        }
+        at = run_before(table, at).unwrap_or(at);
     }
 }
 
