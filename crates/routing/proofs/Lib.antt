@@ -2,3 +2,4 @@ pub mod Places
 pub mod Points
 pub mod Offers
 pub mod Chains
+pub mod Promises

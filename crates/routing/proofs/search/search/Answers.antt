@@ -1,0 +1,4 @@
+use Rattle.routing.proofs.search.search.Needs as need
+
+pub returns : need.returns
+returns g c = ?
