@@ -1,6 +1,6 @@
 -- The best place that the first runs offer a point, one run after another.
 use mathlib.Core.Path.{_≡_, refl, sym, ap, subst, _∙_}
-use mathlib.Core.Bool.{Bool, true, false, cond}
+use mathlib.Core.Bool.{Bool, true, false, not, cond}
 use mathlib.Core.Logic.{_⊎_, inl, inr}
 use mathlib.Core.List.{List}
 use Prim.Native.Nat.{ℕ, _<_, _+_}
@@ -16,7 +16,8 @@ use Rattle.walks.specs.Walks.{run-at}
 use Rattle.routing.specs.declared.place.Place.{Place}
 use Rattle.routing.specs.declared.place.Place.the-variants.{Absent, Reached}
 use Rattle.routing.specs.Tables.{place}
-use Rattle.routing.specs.Offers.{lower, Lowest-into, Best-run, Best-into}
+use Rattle.routing.specs.Steps.{cost-in, improved}
+use Rattle.routing.specs.Offers.{Lowest-into, Best-run, Best-into}
 use Rattle.routing.proofs.Places.{absent-reached, same-cost}
 
 -- what is below n + 1 is below n or is n
@@ -61,25 +62,30 @@ module _ {C : Type 0} (k : Kind C) (laws : Lawful k) (m : List Run) (t : List (P
   best-past n (Reached c (Some r)) past best = keep n c r (λ d b into is. absurd (past into)) best
 
   -- a run into v offers what its place in the table has
-  pub best-more : (n : ℕ) (p q : Place C) → run-at m n .head ≡ v → place t n ≡ q → Best-into k m t n v p → Best-into k m t (n + 1) v (lower k p n q)
-  best-more n Absent Absent into is none = none-more n (λ i. is) none
-  best-more n (Reached c None) Absent into is best = best
-  best-more n (Reached c (Some r)) Absent into is best = keep n c r (λ d b i at. absurd (absent-reached (place t n) d b is at)) best
-  best-more n Absent (Reached c b) into is none = take-up n c b into is (λ r d e lt i at. absurd (absent-reached (place t r) d e (none r lt i) at))
-  best-more n (Reached d None) (Reached c b) into is best = absurd best
-  best-more n (Reached d (Some r)) (Reached c b) into is best = go (k .at-most d c) refl
+  best-offer : (n : ℕ) (p q : Place C) → run-at m n .head ≡ v → place t n ≡ q → Best-into k m t n v p → Best-into k m t (n + 1) v (improved (k .at-most) n (cost-in q) p)
+  best-offer n Absent Absent into is none = none-more n (λ i. is) none
+  best-offer n (Reached c None) Absent into is best = best
+  best-offer n (Reached c (Some r)) Absent into is best = keep n c r (λ d b i at. absurd (absent-reached (place t n) d b is at)) best
+  best-offer n Absent (Reached c b) into is none = take-up n c b into is (λ r d e lt i at. absurd (absent-reached (place t r) d e (none r lt i) at))
+  best-offer n (Reached d None) (Reached c b) into is best = absurd best
+  best-offer n (Reached d (Some r)) (Reached c b) into is best = go (k .at-most d c) refl
     where
-      go : (x : Bool) → k .at-most d c ≡ x → Best-into k m t (n + 1) v (cond x (Reached d (Some r)) (Reached c (Some n)))
+      go : (x : Bool) → k .at-most d c ≡ x → Best-into k m t (n + 1) v (cond (not x) (Reached c (Some n)) (Reached d (Some r)))
       go true le = keep n d r (λ a e i at. subst (λ (y : C). Le k d y) (same-cost (place t n) c a b e is at) le) best
       go false gt =
           let up : Le k c d = elim (laws .total d c) [ inl le ↦ absurd (both-ways (k .at-most d c) gt le) | inr le ↦ le ] in
           take-up n c b into is (λ q a e lt i at. laws .trans c d a up (best .lowest q a e lt i at))
 
+  pub best-more : (n : ℕ) (p q x : Place C) (offer : Option C) → run-at m n .head ≡ v → place t n ≡ q → offer ≡ cost-in q → x ≡ improved (k .at-most) n offer p
+      → Best-into k m t n v p → Best-into k m t (n + 1) v x
+  best-more n p q x offer into is has new best =
+      subst (Best-into k m t (n + 1) v) (sym (new ∙ ap (λ (o : Option C). improved (k .at-most) n o p) has)) (best-offer n p q into is best)
+
 -- the same for every point of a board at once
 module _ {C : Type 0} (k : Kind C) (laws : Lawful k) (m : List Run) (t b : List (Place C)) (n : ℕ) where
-  pub board-more : (h : ℕ) (p q x : Place C) → h < length b → run-at m n .head ≡ h → place b h ≡ p → place t n ≡ q → x ≡ lower k p n q
+  pub board-more : (h : ℕ) (p q x : Place C) (offer : Option C) → h < length b → run-at m n .head ≡ h → place b h ≡ p → place t n ≡ q → offer ≡ cost-in q → x ≡ improved (k .at-most) n offer p
       → ((v : ℕ) → v < length b → Best-into k m t n v (place b v)) → (v : ℕ) → v < length b → Best-into k m t (n + 1) v (place (set b h x) v)
-  board-more h p q x lt head is-p is-q new best v within = elim (cases-eq v h) [
-    | inl e ↦ subst (Best-into k m t (n + 1) v) (sym (ap (place (set b h x)) e ∙ getD-set-same b h x Absent lt ∙ new)) (best-more k laws m t v n p q (head ∙ sym e) is-q (subst (Best-into k m t n v) (ap (place b) e ∙ is-p) (best v within)))
+  board-more h p q x offer lt head is-p is-q has new best v within = elim (cases-eq v h) [
+    | inl e ↦ best-more k laws m t v n p q (place (set b h x) v) offer (head ∙ sym e) is-q has (ap (place (set b h x)) e ∙ getD-set-same b h x Absent lt ∙ new) (subst (Best-into k m t n v) (ap (place b) e ∙ is-p) (best v within))
     | inr ne ↦ subst (Best-into k m t (n + 1) v) (sym (getD-set-other b h v x Absent ne)) (best-past k laws m t v n (place b v) (λ e. ne (sym e ∙ head)) (best v within))
   ]

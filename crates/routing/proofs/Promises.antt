@@ -1,6 +1,7 @@
 -- From what a search over the runs leaves to what a survey and a route promise of a rig.
 use mathlib.Core.Path.{_≡_, refl, sym, ap, subst, _∙_}
-use mathlib.Core.List.{List, [], _++_}
+use mathlib.Core.Logic.{_⊎_}
+use mathlib.Core.List.{List, [], _∷_, _++_}
 use Prim.Native.Nat.{ℕ, _<_, _≤_}
 use native.Mathlib.Omega.{arith}
 use lib.ListN.{length, take, drop, getD}
@@ -14,8 +15,9 @@ use Rattle.track.specs.Sizes.{points}
 use Rattle.track.specs.Runs.{idle}
 use Rattle.track.specs.Answers.{Answer, gave, refused}
 use Rattle.track.specs.Map.{Map, Call}
+use Rattle.track.specs.Map.Call.{Survey, Route}
 use Rattle.track.specs.Calls.{map-of, map-after, Left-by}
-use Rattle.track.proofs.History.{left-is}
+use Rattle.track.proofs.History.{left-is, one-more}
 use Rattle.walks.specs.Kinds.{Kind}
 use Rattle.walks.specs.Rules.{Rule}
 use Rattle.walks.specs.Walks.{No-repeat}
@@ -55,16 +57,22 @@ same-map m runs e = λ i. record { runs = e i; names = m .names }
 module _ {C : Type 0} (k : Kind C) (rule : Rule) (home : ℕ) where
   -- what is done on the runs of a rig is done on its map, and on the map worked out from the calls that left it
   pub survey-promise : (m : Map) (runs : List Run) → runs ≡ m .runs → (t b : List (Place C)) (a : Answer (Unit {0})) (t′ b′ : List (Place C)) → Survey-done k rule (with-runs m runs) home t b a t′ b′
-      → record { done : Survey-done k rule m home t b a t′ b′; law : (calls : List Call) → Left-by calls m → Survey-done k rule (map-after calls) home t b a t′ b′ }
+      → record { done : Survey-done k rule m home t b a t′ b′; law : (calls : List Call) → Left-by calls m → Survey-done k rule (map-after calls) home t b a t′ b′ × Left-by (calls ++ Survey ∷ []) m }
   survey-promise m runs e t b a t′ b′ done =
       let here : Survey-done k rule m home t b a t′ b′ = subst (λ (x : Map). Survey-done k rule x home t b a t′ b′) (same-map m runs e) done in
-      record { done = here; law = λ calls left. subst (λ (x : Map). Survey-done k rule x home t b a t′ b′) (left-is calls m left) here }
+      record { done = here; law = λ calls left. (subst (λ (x : Map). Survey-done k rule x home t b a t′ b′) (left-is calls m left) here, one-more m m Survey refl calls left) }
 
   pub route-promise : (m : Map) (runs : List Run) → runs ≡ m .runs → (mark : ℕ) (t : List (Place C)) (l : List ℕ) (a : Answer (ℕ × C)) (t′ : List (Place C)) (l′ : List ℕ) → Route-done k rule (with-runs m runs) home mark t l a t′ l′
-      → record { done : Route-done k rule m home mark t l a t′ l′; law : (calls : List Call) → Left-by calls m → Route-done k rule (map-after calls) home mark t l a t′ l′ }
+      → record { done : Route-done k rule m home mark t l a t′ l′; law : (calls : List Call) → Left-by calls m → Route-done k rule (map-after calls) home mark t l a t′ l′ × Left-by (calls ++ Route ∷ []) m }
   route-promise m runs e mark t l a t′ l′ done =
       let here : Route-done k rule m home mark t l a t′ l′ = subst (λ (x : Map). Route-done k rule x home mark t l a t′ l′) (same-map m runs e) done in
-      record { done = here; law = λ calls left. subst (λ (x : Map). Route-done k rule x home mark t l a t′ l′) (left-is calls m left) here }
+      record { done = here; law = λ calls left. (subst (λ (x : Map). Route-done k rule x home mark t l a t′ l′) (left-is calls m left) here, one-more m m Route refl calls left) }
+
+  pub survey-no-point : (m : Map) (t b : List (Place C)) → points ≤ home → Survey-done k rule m home t b (refused 1) t b
+  survey-no-point m t b high = (grind (arith, tells), (refl, refl))
+
+  pub route-no-point : (m : Map) (mark : ℕ) (t : List (Place C)) (l : List ℕ) → (points ≤ home) ⊎ (points ≤ mark) → Route-done k rule m home mark t l (refused 1) t l
+  route-no-point m mark t l high = subst (λ (a : Answer (Unit {0})). Route-left a (task k rule (m .runs) home) mark t l (refused 1) t l) {x = refused 1} (grind (arith, tells)) (refl, refl, refl)
 
   module _ (m : Map) (low : home < points) (t : List (Place C)) where
     pub survey-table-short : (b : List (Place C)) → length t < length (m .runs) → Survey-done k rule m home t b (refused 8) t b

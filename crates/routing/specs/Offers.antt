@@ -1,6 +1,5 @@
 -- What runs offer the points that they lead to. For inner functions; no public contract speaks of it.
 use mathlib.Core.Path.{_≡_}
-use mathlib.Core.Bool.{cond}
 use mathlib.Core.List.{List}
 use Prim.Native.Nat.{ℕ, _<_}
 use lib.ListN.{length, getD}
@@ -13,12 +12,6 @@ use Rattle.walks.specs.Walks.{run-at}
 use Rattle.routing.specs.declared.place.Place.{Place}
 use Rattle.routing.specs.declared.place.Place.the-variants.{Absent, Reached}
 use Rattle.routing.specs.Tables.{place}
-
--- the lower of a point's place so far and what the run r, which has this place in the table, offers
-abbrev pub lower : {C : Type 0} → Kind C → (best : Place C) → (r : ℕ) → Place C → Place C
-lower k best r Absent = best
-lower k Absent r (Reached c b) = Reached c (Some r)
-lower k (Reached d e) r (Reached c b) = cond (k .at-most d c) (Reached d e) (Reached c (Some r))
 
 -- c is above no cost that one of the first n runs has in the table t and offers the point v
 abbrev pub Lowest-into : {C : Type 0} → Kind C → List Run → List (Place C) → (n v : ℕ) → C → Type 0

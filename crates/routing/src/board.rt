@@ -6,46 +6,11 @@ ghost use Rattle.walks.specs.Rules.{Rule};
 ghost use Rattle.walks.specs.Cheapest.{task};
 ghost use Rattle.routing.specs.declared.place.Place.the-variants.{Absent};
 ghost use Rattle.routing.specs.Tables.{place as place-at, Table-holds, Board-place, Board-holds};
-ghost use Rattle.routing.specs.Offers.{lower as lower-place, Best-into, Heads-below};
+ghost use Rattle.routing.specs.Offers.{Best-into, Heads-below};
 use crate::place::Place;
+use crate::search::improve;
 use track::run::Run;
 use walks::kind::CostKind;
-
-/// The lower of a point's place so far and what run `run`, which has `offer` as its place in the table, offers.
-fn lower<K: CostKind>(
-    kind: &K,
-    best: Place<K::Cost>,
-    run: u16,
-    offer: Place<K::Cost>,
-) -> Place<K::Cost>
-    ensures { λ r. ⌜ r ≡ lower-place (K·CostKind .meaning (now (kind .entry))) best run offer ⌝ }
-{
-    match offer {
-        Place::Absent => best,
-        Place::Reached { cost, run: _ } => match best {
-            Place::Absent => Place::Reached {
-                cost,
-                run: Some(run),
-            },
-            Place::Reached {
-                cost: least,
-                run: by,
-            } => {
-                if kind.at_most(least, cost) {
-                    Place::Reached {
-                        cost: least,
-                        run: by,
-                    }
-                } else {
-                    Place::Reached {
-                        cost,
-                        run: Some(run),
-                    }
-                }
-            }
-        },
-    }
-}
 
 /// The best place that the runs into `point` offer it.
 fn best_into<K: CostKind>(
@@ -60,7 +25,7 @@ fn best_into<K: CostKind>(
     let mut best = Place::Absent;
     for run in 0..runs.len() {
         if runs[run].head == point {
-            best = lower(kind, best, run as u16, table[run]);
+            improve(kind, run as u16, table[run].cost(), &mut best);
         }
     }
     best
@@ -110,7 +75,7 @@ fn offer_runs<K: CostKind>(
 {
     for run in 0..runs.len() {
         let head = runs[run].head as usize;
-        board[head] = lower(kind, board[head], run as u16, table[run]);
+        improve(kind, run as u16, table[run].cost(), &mut board[head]);
     }
 }
 

@@ -1,10 +1,11 @@
 ghost use mathlib.Core.Path.{_≡_};
-ghost use mathlib.Core.List.{List};
+ghost use mathlib.Core.List.{List, [], _∷_, _++_};
 ghost use Prim.Native.Nat.{_<_, _≤_};
 ghost use lib.ListN.{length};
 ghost use Rattle.track.specs.Sizes.{most-runs};
 ghost use Rattle.track.specs.Answers.{told};
 ghost use Rattle.track.specs.Map.{Call};
+ghost use Rattle.track.specs.Map.Call.{Route};
 ghost use Rattle.track.specs.Calls.{map-of, map-after, Left-by};
 ghost use Rattle.walks.specs.Cheapest.{task};
 ghost use Rattle.routing.specs.Refusals.{number};
@@ -36,7 +37,7 @@ pub fn route<K: CostKind, R: HandoverRule>(
     list: &mut [u16],
 ) -> Result<(usize, K::Cost), SearchRefusal>
     ensures done { λ r. ⌜ Route-done (K·CostKind .meaning (now (kind .entry))) (R·HandoverRule .table (now (rule .entry))) (map-of (now (rig .entry) .layout)) home mark (now (table .entry)) (now (list .entry)) (told number r) (now (table .exit)) (now (list .exit)) ⌝ }
-    ensures law { λ r. ⌜ ((calls : List Call) → Left-by calls (map-of (now (rig .entry) .layout)) → Route-done (K·CostKind .meaning (now (kind .entry))) (R·HandoverRule .table (now (rule .entry))) (map-after calls) home mark (now (table .entry)) (now (list .entry)) (told number r) (now (table .exit)) (now (list .exit))) ⌝ }
+    ensures law { λ r. ⌜ ((calls : List Call) → Left-by calls (map-of (now (rig .entry) .layout)) → Route-done (K·CostKind .meaning (now (kind .entry))) (R·HandoverRule .table (now (rule .entry))) (map-after calls) home mark (now (table .entry)) (now (list .entry)) (told number r) (now (table .exit)) (now (list .exit)) × Left-by (calls ++ Route ∷ []) (map-of (now (rig .entry) .layout))) ⌝ }
 {
     if home as usize >= POINTS || mark as usize >= POINTS {
         return Err(SearchRefusal::NoPoint);

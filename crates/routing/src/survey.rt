@@ -1,10 +1,11 @@
 ghost use mathlib.Core.Path.{_≡_};
-ghost use mathlib.Core.List.{List};
+ghost use mathlib.Core.List.{List, [], _∷_, _++_};
 ghost use Prim.Native.Nat.{_<_, _≤_};
 ghost use lib.ListN.{length};
 ghost use Rattle.track.specs.Sizes.{points, most-runs};
 ghost use Rattle.track.specs.Answers.{told};
 ghost use Rattle.track.specs.Map.{Call};
+ghost use Rattle.track.specs.Map.Call.{Survey};
 ghost use Rattle.track.specs.Calls.{map-of, map-after, Left-by};
 ghost use Rattle.walks.specs.Cheapest.{task};
 ghost use Rattle.routing.specs.Refusals.{number};
@@ -34,7 +35,7 @@ pub fn survey<K: CostKind, R: HandoverRule>(
     board: &mut [Place<K::Cost>],
 ) -> Result<(), SearchRefusal>
     ensures done { λ r. ⌜ Survey-done (K·CostKind .meaning (now (kind .entry))) (R·HandoverRule .table (now (rule .entry))) (map-of (now (rig .entry) .layout)) home (now (table .entry)) (now (board .entry)) (told number r) (now (table .exit)) (now (board .exit)) ⌝ }
-    ensures law { λ r. ⌜ ((calls : List Call) → Left-by calls (map-of (now (rig .entry) .layout)) → Survey-done (K·CostKind .meaning (now (kind .entry))) (R·HandoverRule .table (now (rule .entry))) (map-after calls) home (now (table .entry)) (now (board .entry)) (told number r) (now (table .exit)) (now (board .exit))) ⌝ }
+    ensures law { λ r. ⌜ ((calls : List Call) → Left-by calls (map-of (now (rig .entry) .layout)) → Survey-done (K·CostKind .meaning (now (kind .entry))) (R·HandoverRule .table (now (rule .entry))) (map-after calls) home (now (table .entry)) (now (board .entry)) (told number r) (now (table .exit)) (now (board .exit)) × Left-by (calls ++ Survey ∷ []) (map-of (now (rig .entry) .layout))) ⌝ }
 {
     if home as usize >= POINTS {
         return Err(SearchRefusal::NoPoint);

@@ -22,9 +22,9 @@ loop-run-again g c =
     let r = c .loop-run .run in
     let head = ap (λ (x : Run). x .head) (getD-default runs r not-laid idle (c .loop-run-test .taken)) in
     elim (c .if-runs-run .came) [
-      | then-runs-run w ↦ (let offer = w .index-table-run .result in
-          let is : place table r ≡ offer = getD-default table r Absent offer (omega arith) ∙ sym (w .index-table-run .is) in
-          subst (Best-into k runs table (r + 1) (c .args .point)) (sym (w .best-is ∙ w .lower-best .ensures)) (best-more k laws runs table (c .args .point) r (c .loop-run .best) offer (head ∙ w .if-runs-run .taken) is (c .loop-run .inv)))
+      | then-runs-run w ↦ (let here = w .index-table-run .result in
+          best-more k laws runs table (c .args .point) r (c .loop-run .best) here (c .if-runs-run .best) (w .cost .result) (head ∙ w .if-runs-run .taken)
+          (getD-default table r Absent here (omega arith) ∙ sym (w .index-table-run .is)) (w .cost .ensures) (w .best-is ∙ w .improve .ensures) (c .loop-run .inv))
       | else-runs-run w ↦ subst (Best-into k runs table (r + 1) (c .args .point)) (sym (w .best-is)) (best-past k laws runs table (c .args .point) r (c .loop-run .best) (λ e. w .if-runs-run .left (sym head ∙ e)) (c .loop-run .inv))
     ]
 

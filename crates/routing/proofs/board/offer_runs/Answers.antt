@@ -20,12 +20,6 @@ offset-board-head g c = let within : getD (c .args .runs .now) (c .loop-run .run
 pub index-board-head : need.index-board-head
 index-board-head g c = omega (arith, c .pre .heads (c .loop-run .run) (c .loop-run-test .taken))
 
-pub offset-board-head-in-loop-run : need.offset-board-head-in-loop-run
-offset-board-head-in-loop-run g c = let within : getD (c .args .runs .now) (c .loop-run .run) idle .head < length (c .args .board .now) = c .pre .heads (c .loop-run .run) (c .loop-run-test .taken) in search needs
-
-pub index-board-head-in-loop-run : need.index-board-head-in-loop-run
-index-board-head-in-loop-run g c = omega (arith, c .pre .heads (c .loop-run .run) (c .loop-run-test .taken))
-
 pub loop-run-again : need.loop-run-again
 loop-run-again g c v lt =
     let k = g .K·CostKind .meaning (c .args .kind .now) in
@@ -35,14 +29,14 @@ loop-run-again g c v lt =
     let board = c .loop-run .board in
     let r = c .loop-run .run in
     let head = getD runs r idle .head in
-    let best = c .index-board-head .result in
-    let offer = c .index-table-run .result in
+    let best = getD board head (c .index-board-head .result) in
+    let here = c .index-table-run .result in
     let within : head < length board = omega (arith, c .pre .heads r (c .loop-run-test .taken)) in
-    board-more k laws runs table board r head best offer (c .lower .result) within
+    board-more k laws runs table board r head best here (c .improve .last .place) (c .cost .result) within
     (ap (λ (x : Run). x .head) (getD-default runs r not-laid idle (c .loop-run-test .taken)))
-    (getD-default board head Absent best within ∙ sym (c .index-board-head .is))
-    (getD-default table r Absent offer (omega arith) ∙ sym (c .index-table-run .is))
-    (c .lower .ensures) (λ u h. c .loop-run .inv u (omega arith)) v (omega arith)
+    (getD-default board head Absent (c .index-board-head .result) within)
+    (getD-default table r Absent here (omega arith) ∙ sym (c .index-table-run .is))
+    (c .cost .ensures) (c .improve .ensures) (λ u h. c .loop-run .inv u (omega arith)) v (omega arith)
 
 pub returns : need.returns
 returns g c v lt =

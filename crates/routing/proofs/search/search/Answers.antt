@@ -1,4 +1,0 @@
-use Rattle.routing.proofs.search.search.Needs as need
-
-pub returns : need.returns
-returns g c = ?
