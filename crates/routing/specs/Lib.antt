@@ -2,3 +2,4 @@ pub mod Refusals
 pub mod Tables
 pub mod Survey
 pub mod Route
+pub mod Steps

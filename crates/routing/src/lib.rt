@@ -1,2 +1,3 @@
 pub mod place;
 pub mod refusal;
+pub(crate) mod search;

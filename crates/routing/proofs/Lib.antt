@@ -1,0 +1,3 @@
+pub mod Trails
+pub mod Turns
+pub mod Loops
