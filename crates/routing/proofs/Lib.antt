@@ -1,3 +1,6 @@
+pub mod Trails
+pub mod Turns
+pub mod Loops
 pub mod Places
 pub mod Points
 pub mod Offers

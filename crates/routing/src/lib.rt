@@ -1,7 +1,7 @@
-pub mod board;
-pub mod follow;
+mod board;
+mod follow;
 pub mod place;
 pub mod refusal;
 pub mod route;
-pub mod search;
+mod search;
 pub mod survey;
