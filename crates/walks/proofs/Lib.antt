@@ -1,3 +1,7 @@
 pub mod Few
+pub mod Rows
+pub mod Lawful
+pub mod Totals
+pub mod Bound
 pub mod Net
 pub mod Ways

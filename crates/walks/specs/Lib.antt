@@ -4,3 +4,7 @@ pub mod Walks
 pub mod Cheapest
 pub mod Moves
 pub mod Labels
+pub mod Costs
+pub mod Refusals
+pub mod Settings
+pub mod Sums
