@@ -70,7 +70,12 @@ fn is_lower<K: CostKind>(kind: &K, cost: K::Cost, place: Place<K::Cost>) -> bool
 }
 
 /// Writes what the run `run` offers into a place, where it offers something lower.
-pub(crate) fn improve<K: CostKind>(kind: &K, run: u16, offer: Option<K::Cost>, place: &mut Place<K::Cost>)
+pub(crate) fn improve<K: CostKind>(
+    kind: &K,
+    run: u16,
+    offer: Option<K::Cost>,
+    place: &mut Place<K::Cost>,
+)
     ensures { λ _. ⌜ now (place .exit) ≡ improved (K·CostKind .meaning (now (kind .entry)) .at-most) run offer (now (place .entry)) ⌝ }
 {
     if let Some(cost) = offer {
