@@ -2,8 +2,10 @@ pub mod Kinds
 pub mod Rules
 pub mod Walks
 pub mod Cheapest
+pub mod Moves
 pub mod Labels
 pub mod Costs
 pub mod Refusals
 pub mod Settings
 pub mod Sums
+pub mod Prices
