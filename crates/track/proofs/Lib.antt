@@ -1,2 +1,4 @@
 pub mod Lists
 pub mod History
+pub mod Whole
+pub mod Same

@@ -4,3 +4,4 @@ pub mod Refusals
 pub mod Answers
 pub mod Map
 pub mod Calls
+pub mod History

@@ -32,8 +32,10 @@ pub data Call : Type 0 where
   Name : (point : ℕ) (text : List ℕ) → Call
   Open : Call
   Close : Call
-  -- writes the tape, which leaves the rig as it is
+  -- calls that only look: at a rig in get-in, and at one in show
   Write : Call
+  Survey : Call
+  Route : Call
 
 -- lay answers the number of the new run
 abbrev pub lay-answer : Map → (tail head winch strain : ℕ) → Answer ℕ
@@ -91,3 +93,5 @@ after m (Name point text) = if-gave (name-answer point text) (record { runs = m 
 after m Open = m
 after m Close = m
 after m Write = m
+after m Survey = m
+after m Route = m

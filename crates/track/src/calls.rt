@@ -3,6 +3,7 @@ ghost use mathlib.Core.Bool.{cond};
 ghost use Prim.Native.Nat.{ℕ, _<_, _≤_};
 ghost use lib.ListN.{length, getD};
 ghost use Rattle.std.specs.declared.option.Option.the-variants.{Some, None};
+ghost use Rattle.track.specs.Sizes.{points, most-runs};
 ghost use Rattle.track.specs.Runs.{all-plain, name-ok};
 ghost use Rattle.track.specs.Refusals.{number};
 ghost use Rattle.track.specs.Answers.{told};
@@ -40,6 +41,22 @@ impl Layout {
             },
             names: [NO_NAME; POINTS],
         }
+    }
+
+    /// The runs laid, struck ones too, by number.
+    pub(crate) fn runs(&self) -> &[Run]
+        ensures value { λ r. ⌜ now r ≡ map-of (now (self .entry)) .runs ⌝ }
+        ensures bound { λ r. ⌜ length (now r) ≤ most-runs ⌝ }
+    {
+        &self.table.runs[0..self.table.laid]
+    }
+
+    /// The name of each point.
+    pub(crate) fn names(&self) -> &[[u8; 8]; POINTS]
+        ensures value { λ r. ⌜ now r ≡ map-of (now (self .entry)) .names ⌝ }
+        ensures len { λ r. ⌜ length (now r) ≡ points ⌝ }
+    {
+        &self.names
     }
 
     pub(crate) fn lay(

@@ -2,6 +2,7 @@ ghost use mathlib.Core.Path.{_≡_};
 ghost use mathlib.Core.List.{List, [], _∷_, _++_};
 ghost use Prim.Native.Nat.{ℕ, _≤_};
 ghost use lib.ListN.{length};
+ghost use Rattle.track.specs.Sizes.{points, most-runs};
 ghost use Rattle.track.specs.Refusals.{number};
 ghost use Rattle.track.specs.Answers.{told};
 ghost use Rattle.track.specs.Map.{Call, blank};
@@ -9,18 +10,19 @@ ghost use Rattle.track.specs.Map.Call.{Lay, Strike, Retime, Name, Open, Close}
 ghost use Rattle.track.specs.Calls.{map-of, Left-by, Lay-done, Strike-done, Retime-done, Name-done};
 use crate::layout::Layout;
 use crate::refusal::MapRefusal;
+use crate::run::POINTS;
 use crate::run::Run;
 
 /// A rig in get-in: its map may be changed and written, and no route may be asked of it.
 #[derive(Drop)]
 pub struct GetIn {
-    layout: Layout,
+    pub(crate) layout: Layout,
 }
 
 /// A rig in show: its map stands.
 #[derive(Drop)]
 pub struct Show {
-    layout: Layout,
+    pub(crate) layout: Layout,
 }
 
 impl GetIn {
@@ -93,9 +95,18 @@ impl GetIn {
 
     /// The runs laid, struck ones too, by number.
     pub fn runs(&self) -> &[Run]
-        ensures { λ r. ⌜ now r ≡ map-of (now (self .entry) .layout) .runs ⌝ ∗ ⌜ length (now r) ≤ 256 ⌝ }
+        ensures value { λ r. ⌜ now r ≡ map-of (now (self .entry) .layout) .runs ⌝ }
+        ensures bound { λ r. ⌜ length (now r) ≤ most-runs ⌝ }
     {
-        &self.layout.table.runs[0..self.layout.table.laid]
+        self.layout.runs()
+    }
+
+    /// The name of each point.
+    pub fn names(&self) -> &[[u8; 8]; POINTS]
+        ensures value { λ r. ⌜ now r ≡ map-of (now (self .entry) .layout) .names ⌝ }
+        ensures len { λ r. ⌜ length (now r) ≡ points ⌝ }
+    {
+        self.layout.names()
     }
 }
 
@@ -111,8 +122,17 @@ impl Show {
 
     /// The runs laid, struck ones too, by number.
     pub fn runs(&self) -> &[Run]
-        ensures { λ r. ⌜ now r ≡ map-of (now (self .entry) .layout) .runs ⌝ ∗ ⌜ length (now r) ≤ 256 ⌝ }
+        ensures value { λ r. ⌜ now r ≡ map-of (now (self .entry) .layout) .runs ⌝ }
+        ensures bound { λ r. ⌜ length (now r) ≤ most-runs ⌝ }
     {
-        &self.layout.table.runs[0..self.layout.table.laid]
+        self.layout.runs()
+    }
+
+    /// The name of each point.
+    pub fn names(&self) -> &[[u8; 8]; POINTS]
+        ensures value { λ r. ⌜ now r ≡ map-of (now (self .entry) .layout) .names ⌝ }
+        ensures len { λ r. ⌜ length (now r) ≡ points ⌝ }
+    {
+        self.layout.names()
     }
 }

@@ -11,7 +11,7 @@ pub const MOST_STRAIN: u8 = 100;
 pub const MOST_RUNS: usize = 256;
 
 /// A run: a one-way piece of track from its tail point to its head point, hauled by one winch.
-#[derive(Clone, Copy, Drop)]
+#[derive(Clone, Copy, Drop, PartialEq, Eq, Debug)]
 pub struct Run {
     pub tail: u8,
     pub head: u8,
