@@ -4,7 +4,7 @@ ghost use lib.ListN.{length};
 ghost use Rattle.std.specs.Options.{Cases};
 ghost use Rattle.track.specs.Sizes.{most-runs};
 ghost use Rattle.walks.specs.Cheapest.{task};
-ghost use Rattle.walks.specs.Moves.{begin-cost, follow-cost};
+ghost use Rattle.walks.specs.Moves.{begin-cost};
 ghost use Rattle.routing.specs.Tables.{Table-holds};
 ghost use Rattle.routing.specs.Steps.{begun, Begun, lower, first, improved, Relaxed, None-waits, Lowest};
 use crate::place::Place;
@@ -12,6 +12,8 @@ use track::run::MOST_RUNS;
 use track::run::Run;
 use walks::kind::CostKind;
 use walks::rule::HandoverRule;
+use walks::walk::begin as begin_cost;
+use walks::walk::follow;
 
 /// A run that waits to be taken, and its label.
 #[derive(Clone, Copy, Drop)]
@@ -24,35 +26,9 @@ struct Waiting<C> {
 fn begin<K: CostKind>(kind: &K, home: u8, run: Run) -> Place<K::Cost>
     ensures { λ r. ⌜ r ≡ begun (begin-cost (K·CostKind .meaning (now (kind .entry))) home run) ⌝ }
 {
-    if !run.struck && run.tail == home {
-        Place::Reached {
-            cost: kind.along(kind.start(), run.time, run.strain),
-            run: None,
-        }
-    } else {
-        Place::Absent
-    }
-}
-
-/// What the cost of a walk that ends with `last` becomes once `next` follows, if it may.
-fn follow<K: CostKind, R: HandoverRule>(
-    kind: &K,
-    rule: &R,
-    last: Run,
-    next: Run,
-    cost: K::Cost,
-) -> Option<K::Cost>
-    ensures { λ r. ⌜ r ≡ follow-cost (K·CostKind .meaning (now (kind .entry))) (R·HandoverRule .table (now (rule .entry))) last next cost ⌝ }
-{
-    if next.struck || next.tail != last.head {
-        return None;
-    }
-    match rule.ask(last.head, last.winch, next.winch) {
-        Some(penalty) => {
-            let crossed = kind.over(cost, penalty, last.winch != next.winch);
-            Some(kind.along(crossed, next.time, next.strain))
-        }
-        None => None,
+    match begin_cost(kind, home, run) {
+        Some(cost) => Place::Reached { cost, run: None },
+        None => Place::Absent,
     }
 }
 

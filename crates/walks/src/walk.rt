@@ -50,9 +50,13 @@ pub fn follow<K: CostKind, R: HandoverRule>(
     if next.struck || next.tail != last.head {
         return None;
     }
-    let penalty = rule.ask(last.head, last.winch, next.winch)?;
-    let crossed = kind.over(cost, penalty, last.winch != next.winch);
-    Some(kind.along(crossed, next.time, next.strain))
+    match rule.ask(last.head, last.winch, next.winch) {
+        Some(penalty) => {
+            let crossed = kind.over(cost, penalty, last.winch != next.winch);
+            Some(kind.along(crossed, next.time, next.strain))
+        }
+        None => None,
+    }
 }
 
 /// What the walk of these run numbers costs, or `None` where it is no legal walk from `home` to `mark`.
