@@ -5,6 +5,7 @@ use mathlib.Core.Bool.{Bool, cond}
 use mathlib.Core.List.{List, [], _∷_, _++_}
 use Prim.Native.Nat.{ℕ, _+_, _/_, _%_, _^_, _<_, _≤_}
 use native.Mathlib.Numerals.{add-one}
+use lib.Chars.{codes}
 use lib.Dec.{leb}
 use lib.ListN.{length, getD, take, drop, set}
 use lib.Seq.{paste}
@@ -80,11 +81,16 @@ pub route-parts : (kind : KindName) (home mark cost : ℕ) (runs : List ℕ)
 route-parts kind home mark cost runs = simp append-assoc
 
 pub no-way-parts : (kind : KindName) (home mark : ℕ) → no-way-line kind home mark ≡ heading kind home mark ++ 32 ∷ 110 ∷ 111 ∷ 32 ∷ 119 ∷ 97 ∷ 121 ∷ 10 ∷ []
-no-way-parts kind home mark = simp (append-assoc, append-nil)
+no-way-parts kind home mark =
+    ap (λ (t : List ℕ). ((kind-letter kind ∷ (field home ++ t)) ++ codes " no way") ++ 0x0A ∷ []) (append-nil (field mark))
+    ∙ append-assoc (heading kind home mark) (codes " no way") (0x0A ∷ [])
 
 pub length-route : (kind : KindName) (home mark cost : ℕ) (runs : List ℕ)
     → length (route-line kind home mark cost runs) ≡ length (heading kind home mark) + length (field cost) + length (field (length runs)) + length (joined field runs) + 1
 length-route kind home mark cost runs = ap length (route-parts kind home mark cost runs) ∙ simp length-append
+
+pub length-no-way : (kind : KindName) (home mark : ℕ) → length (no-way-line kind home mark) ≡ length (heading kind home mark) + 8
+length-no-way kind home mark = ap length (no-way-parts kind home mark) ∙ length-append (heading kind home mark) (32 ∷ 110 ∷ 111 ∷ 32 ∷ 119 ∷ 97 ∷ 121 ∷ 10 ∷ [])
 
 -- a line that fits, and one that does not
 pub fits : {X : Type 0} (a b : ℕ) (x y : X) → a ≤ b → cond (leb a b) x y ≡ x
@@ -92,3 +98,10 @@ fits a b x y h = ap (λ (t : Bool). cond t x y) (le-leb a b h)
 
 pub lacks : {X : Type 0} (a b : ℕ) (x y : X) → b < a → cond (leb a b) x y ≡ y
 lacks a b x y h = ap (λ (t : Bool). cond t x y) (lt-leb a b h)
+
+pub left-out : (line was : List ℕ) → length was < length line → (None ≡ line-answer line was) × (was ≡ line-left line was)
+left-out line was h = (sym (lacks _ _ _ _ h), sym (lacks _ _ _ _ h))
+
+pub set-down : (line was is : List ℕ) (size : ℕ) → length line ≤ length was → size ≡ length line → is ≡ put-at was 0 line
+    → (Some size ≡ line-answer line was) × (is ≡ line-left line was)
+set-down line was is size h e w = (ap Some e ∙ sym (fits _ _ _ _ h), w ∙ put-first was line ∙ sym (fits _ _ _ _ h))

@@ -86,7 +86,7 @@ fn runs_size(runs: &[u16]) -> usize
 {
     let mut size = 0;
     for run in runs {
-        size += field_size(u64::from(*run));
+        size += field_size(*run as u64);
     }
     size
 }
@@ -96,7 +96,7 @@ fn heading_size(home: u8, mark: u8) -> usize
     ensures value { λ r. ⌜ r ≡ 1 + length (field home) + length (field mark) ⌝ }
     ensures bound { λ r. ⌜ r ≤ 43 ⌝ }
 {
-    1 + field_size(u64::from(home)) + field_size(u64::from(mark))
+    1 + field_size(home as u64) + field_size(mark as u64)
 }
 
 /// Writes `n` in decimal from `at` on, and answers where it ends.
@@ -132,7 +132,7 @@ fn put_runs(out: &mut [u8], start: usize, runs: &[u16]) -> usize
 {
     let mut at = start;
     for run in runs {
-        at = put_field(out, at, u64::from(*run));
+        at = put_field(out, at, *run as u64);
     }
     at
 }
@@ -144,8 +144,8 @@ fn put_heading(out: &mut [u8], kind: KindName, home: u8, mark: u8) -> usize
     ensures left { λ _. ⌜ now (out .exit) ≡ put-at (now (out .entry)) 0 (heading kind home mark) ⌝ }
 {
     out[0] = letter_of(kind);
-    let at = put_field(out, 1, u64::from(home));
-    put_field(out, at, u64::from(mark))
+    let at = put_field(out, 1, home as u64);
+    put_field(out, at, mark as u64)
 }
 
 /// Writes `text` from `at` on.

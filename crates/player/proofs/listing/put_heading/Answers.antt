@@ -1,6 +1,6 @@
 use native.Mathlib.Omega.{arith}
 use mathlib.Core.List.{[], _∷_}
-use lib.ListN.{length-set, set}
+use lib.ListN.{length-set}
 use Rattle.tape.specs.Letters.{kind-letter}
 use Rattle.tape.proofs.Puts.{put-put}
 use Rattle.player.specs.Lines.{field}
