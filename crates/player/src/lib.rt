@@ -1,2 +1,3 @@
+mod desk;
 pub mod fault;
 mod listing;
