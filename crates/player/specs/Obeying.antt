@@ -5,6 +5,7 @@ use mathlib.Core.List.{List}
 use Prim.Native.Nat.{ℕ}
 use lib.Dec.{leb}
 use lib.ListN.{length}
+use Rattle.std.specs.Vec.{made}
 use Rattle.std.specs.declared.result.Result.{Result}
 use Rattle.std.specs.declared.result.Result.the-variants.{Ok, Err}
 use Rattle.track.specs.Answers.{Answer, gave, refused}
@@ -15,6 +16,7 @@ use Rattle.tape.specs.Refusals.{cause-number}
 use Rattle.tape.specs.Reading.{Read}
 use Rattle.player.specs.declared.fault.Layer.{Layer}
 use Rattle.player.specs.declared.desk.Desk.{Desk as Desk-kept}
+use Rattle.player.specs.declared.play.Turn.{Turn}
 use Rattle.player.specs.Faults.{Layer-name, in-tape, in-listing, layer-number, layer-name}
 use Rattle.player.specs.Lines.{Reply, line-of}
 use Rattle.player.specs.Writing.{line-left}
@@ -47,3 +49,13 @@ Obeyed (done e) d was r d′ is = (r ≡ Ok 0) × (d′ ≡ e) × (is ≡ was)
 Obeyed (failed n layer) d was r d′ is = (r ≡ Err (n, layer)) × (d′ ≡ d) × (is ≡ was)
 Obeyed (asked kind home mark) d was r d′ is =
     (reply : Reply) × Right-reply d kind home mark reply × (r ≡ line-told (line-of kind home mark reply) was) × (d′ ≡ d) × (is ≡ line-left (line-of kind home mark reply) was)
+
+-- a turn as it is told: how many bytes were written
+abbrev pub told-written : Result Turn Layer → Told-turn
+told-written (Ok t) = Ok (t .written)
+told-written (Err e) = Err (layer-number e, layer-name e)
+
+-- The same of a command that has yet to be read; so many bytes of the tape are read.
+abbrev pub Turned : Read → Desk → (was : List ℕ) → Result Turn Layer → Desk → (is : List ℕ) → Type 0
+Turned (Ok (c, n)) d was r d′ is = Obeyed (step d c) d was (told-written r) d′ is × made r (λ t. t .read ≡ n)
+Turned (Err e) d was r d′ is = (told-written r ≡ Err (cause-number e, in-tape)) × (d′ ≡ d) × (is ≡ was)

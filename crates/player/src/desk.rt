@@ -41,7 +41,7 @@ use walks::time::TimeKind;
 /// What a play keeps: the rig, the three rules, and the rule for later questions.
 #[derive(Drop)]
 pub(crate) struct Desk {
-    pub(crate) rig: GetIn,
+    rig: GetIn,
     flat: Flat,
     point: ByPoint,
     pair: ByPair,
@@ -60,6 +60,20 @@ impl Desk {
             pair: ByPair::new(),
             rule: RuleName::Flat,
         }
+    }
+
+    /// The rig as the commands made it.
+    pub(crate) fn into_rig(self) -> GetIn
+        ensures { λ r. ⌜ map-of (r .layout) ≡ desk-of self .map ⌝ }
+    {
+        let Desk {
+            rig,
+            flat: _,
+            point: _,
+            pair: _,
+            rule: _,
+        } = self;
+        rig
     }
 
     /// Does what a command says, writes the line of a question at the beginning of `rest`, and answers the line's length.

@@ -1,3 +1,4 @@
 mod desk;
 pub mod fault;
 mod listing;
+pub mod play;
