@@ -1,1 +1,4 @@
+mod desk;
 pub mod fault;
+mod listing;
+pub mod play;

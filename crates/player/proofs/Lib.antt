@@ -1,0 +1,4 @@
+pub mod Fields
+pub mod Replies
+pub mod Outcomes
+pub mod Turns
