@@ -11,5 +11,5 @@ use Rattle.company.proofs.worn.wear_without.Needs as need
 -- the setting is 0, and the runs are those of the rig's map
 pub returns : need.returns
 returns c =
-    subst (λ (m : List Run). Priced (task wear-kind (isolated (flat-rule 0) (c .args .winch)) m (c .args .home)) (c .args .mark) (c .args .walk .now) (c .walk-cost .result)) (c .runs .ensures .0)
+    subst (λ (m : List Run). Priced (task wear-kind (isolated (flat-rule 0) (c .args .winch)) m (c .args .home)) (c .args .mark) (c .args .walk .now) (c .walk-cost .result)) (c .runs .ensures .value)
     (subst (λ (s : ℕ). Priced (task wear-kind (isolated (flat-rule s) (c .args .winch)) (c .runs .result .now) (c .args .home)) (c .args .mark) (c .args .walk .now) (c .walk-cost .result)) (c .new .ensures) (c .walk-cost .ensures))
