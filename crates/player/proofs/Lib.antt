@@ -1,0 +1,5 @@
+pub mod Obeyed
+pub mod Spool
+pub mod Relaid
+pub mod Renamed
+pub mod Roundtrip
