@@ -11,8 +11,8 @@ use Rattle.track.specs.declared.run.Run.{Run}
 use Rattle.track.specs.Sizes.{most-runs}
 use Rattle.track.specs.Runs.{run-ok, idle}
 use Rattle.track.specs.Answers.{Answer, gave, if-gave}
-use Rattle.track.specs.Map.{Map, lay-answer, run-answer, fresh, stricken, altered}
-use Rattle.tape.specs.Commands.{Said, lay, strike}
+use Rattle.track.specs.Map.{Map, lay-answer, run-answer, stricken, altered}
+use Rattle.tape.specs.Commands.{lay, strike}
 use Rattle.tape.specs.Tape.{numbered, run-commands}
 use Rattle.player.specs.Faults.{map}
 use Rattle.player.specs.Play.{Desk, with-map, step, done, unless-refused}
@@ -50,7 +50,7 @@ struck-last d names front x k e =
     let last = getD-at front (marked x false) [] idle k e in
     ap (λ (a : Answer (Unit {0})). unless-refused map a (done (with-map d (if-gave a (altered m k stricken) m)))) (run-accepted m k within (ap (λ (r : Run). r .struck) last))
     ∙ ap (λ (rs : List Run). done (holding d rs names))
-      (ap (λ (r : Run). set (m .runs) k (stricken r)) last ∙ set-at front (marked x false) [] (marked x true) k e)
+    (ap (λ (r : Run). set (m .runs) k (stricken r)) last ∙ set-at front (marked x false) [] (marked x true) k e)
 
 run-again : (d : Desk) (names : List (List ℕ)) (front : List Run) (x : Run) (k : ℕ) → length front ≡ k → k < most-runs → run-ok x ≡ true
     → Obeyed (holding d front names) (run-commands k x) (holding d (front ++ x ∷ []) names)
@@ -65,9 +65,12 @@ run-again d names front x k e room ok = go (x .struck) refl
     go : (b : Bool) → x .struck ≡ b
         → Obeyed (holding d front names) (lay (x .tail) (x .head) (x .winch) (x .time) (x .strain) ∷ cond b (strike k ∷ []) []) (holding d (front ++ x ∷ []) names)
     go false s = (holding d (front ++ marked x false ∷ []) names, time-fits x ok, lays, as-marked false s)
-    go true s =
-        (holding d (front ++ marked x false ∷ []) names, time-fits x ok, lays,
-         (holding d (front ++ marked x true ∷ []) names, tt, struck-last d names front x k e, as-marked true s))
+    go true s = (
+      holding d (front ++ marked x false ∷ []) names,
+      time-fits x ok,
+      lays,
+      (holding d (front ++ marked x true ∷ []) names, tt, struck-last d names front x k e, as-marked true s),
+    )
 
 -- behind the runs that are laid already
 pub runs-again : (d : Desk) (names : List (List ℕ)) (front xs : List Run) (k : ℕ) → length front ≡ k → k + length xs ≤ most-runs

@@ -7,14 +7,14 @@ use Prim.Native.Nat.{ℕ, suc, _+_, _<_, _≤_}
 use lib.ListN.{length, getD, set, replicate}
 use Rattle.std.specs.shelf.Text.{sameBytes}
 use Rattle.std.proofs.shelf.Equals.{sameBytes-decides}
-use Rattle.std.proofs.shelf.Lists.{append-nil, append-assoc, length-push, set-at}
+use Rattle.std.proofs.shelf.Lists.{append-assoc, length-push, set-at}
 use Rattle.std.proofs.shelf.Ways.{tells}
 use Rattle.track.specs.declared.run.Run.{Run}
 use Rattle.track.specs.Sizes.{points}
 use Rattle.track.specs.Runs.{name-ok, no-name}
 use Rattle.track.specs.Answers.{Answer, gave, if-gave}
 use Rattle.track.specs.Map.{Map, name-answer}
-use Rattle.tape.specs.Commands.{Said, name}
+use Rattle.tape.specs.Commands.{name}
 use Rattle.tape.specs.Tape.{numbered, name-commands}
 use Rattle.player.specs.Faults.{map}
 use Rattle.player.specs.Play.{Desk, with-map, step, done, unless-refused}

@@ -1,21 +1,17 @@
 -- The tape written from any rig, played into a new one, gives an equal rig.
 use native.Mathlib.Omega.{arith}
-use mathlib.Core.Path.{_≡_, refl, sym, ap, subst, _∙_}
-use mathlib.Core.Bool.{true}
-use mathlib.Core.List.{List, [], _∷_, _++_}
-use Prim.Native.Nat.{ℕ, _+_, _<_, _≤_}
-use lib.ListN.{length, getD, take, drop, replicate}
+use mathlib.Core.Path.{_≡_, refl, ap, subst, _∙_}
+use mathlib.Core.List.{[], _++_}
+use Prim.Native.Nat.{ℕ, _<_}
+use lib.ListN.{length, drop, replicate}
 use Rattle.std.proofs.shelf.Lists.{length-take-le, getD-take}
-use Rattle.std.specs.declared.option.Option.{Option}
-use Rattle.track.specs.declared.layout.Layout.{Layout}
 use Rattle.track.specs.Sizes.{points}
-use Rattle.track.specs.Runs.{run-ok, name-ok, idle, no-name}
+use Rattle.track.specs.Runs.{run-ok, idle, no-name}
 use Rattle.track.specs.Map.{Map}
 use Rattle.track.specs.Calls.{map-of}
 use Rattle.tape.specs.Tape.{numbered, run-commands, name-commands, commands-of, tape-of}
-use Rattle.player.specs.Faults.{Told-fault}
-use Rattle.player.specs.Play.{new-desk, with-map, Outcome, Play-done}
-use Rattle.player.specs.Roundtrip.{Sound-map, Plays-back, Rigs-are-sound, Round-trip, Equal-rig, Tapes-play-back}
+use Rattle.player.specs.Play.{new-desk, with-map, Outcome}
+use Rattle.player.specs.Roundtrip.{Sound-map, Rigs-are-sound, Round-trip, Equal-rig, Tapes-play-back}
 use Rattle.player.proofs.Obeyed.{Obeyed, obeyed-append}
 use Rattle.player.proofs.Spool.{obeyed-plays, obeyed-asks-nothing}
 use Rattle.player.proofs.Relaid.{holding, runs-again}
@@ -34,7 +30,7 @@ unfolding tape-of
 round-trip m s =
     record {
       asks-nothing = obeyed-asks-nothing 0 new-desk (with-map new-desk m) (commands-of m) (all-again m s);
-      makes-it = obeyed-plays 0 new-desk (with-map new-desk m) (commands-of m) (all-again m s)
+      makes-it = obeyed-plays 0 new-desk (with-map new-desk m) (commands-of m) (all-again m s);
     }
 
 pub rigs-are-sound : Rigs-are-sound
@@ -45,16 +41,19 @@ rigs-are-sound l =
       sound = λ k h. let in-table : k < l .table .laid = omega arith in
           ap run-ok (getD-take (l .table .laid) (l .table .runs) k idle in-table) ∙ l .sound k in-table;
       named = l .named;
-      legible = l .legible
+      legible = l .legible;
     }
 
 pub equal-rig : Equal-rig
 equal-rig l was is rig len fault p =
     let e = round-trip (map-of l) (rigs-are-sound l) .makes-it (p .replies) (length was) in
     let none : len ≡ 0 = p .len-is ∙ ap (λ (o : Outcome). length (o .text)) e in
-    let same = p .rig-is ∙ ap (λ (o : Outcome). o .desk .map) e in
-    ((ap (λ (m : Map). m .runs) same, ap (λ (m : Map). m .names) same), none, p .fault-is ∙ ap (λ (o : Outcome). o .fault) e,
-     p .listing-is ∙ ap (λ (o : Outcome). o .text ++ drop len was) e ∙ ap (λ (n : ℕ). drop n was) none)
+    let same = p .rig-is ∙ ap (λ (o : Outcome). o .desk .map) e in (
+      (ap (λ (m : Map). m .runs) same, ap (λ (m : Map). m .names) same),
+      none,
+      p .fault-is ∙ ap (λ (o : Outcome). o .fault) e,
+      p .listing-is ∙ ap (λ (o : Outcome). o .text ++ drop len was) e ∙ ap (λ (n : ℕ). drop n was) none,
+    )
 
 pub tapes-play-back : Tapes-play-back
 tapes-play-back = (round-trip, rigs-are-sound, equal-rig)

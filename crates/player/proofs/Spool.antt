@@ -10,7 +10,7 @@ use Rattle.tape.specs.Commands.{Said, lay, strike, retime, name, set-flat, set-
 use Rattle.tape.specs.Reading.{Read, Sized, decode}
 use Rattle.tape.proofs.Back.{reads-back}
 use Rattle.player.specs.Lines.{Reply}
-use Rattle.player.specs.Play.{Desk, Item, Step, Outcome, then, items, ends, goes, played, Right-step, Replies-right}
+use Rattle.player.specs.Play.{Desk, Item, Step, then, items, ends, goes, played, Right-step, Replies-right}
 use Rattle.player.proofs.Obeyed.{Obeyed}
 
 -- a command that was read at this place
