@@ -19,7 +19,7 @@ pub data Layer-name : Type 0 where
   tape : Layer-name
   map : Layer-name
   rule : Layer-name
-  search-layer : Layer-name
+  search : Layer-name
   listing : Layer-name
 
 -- the word by which a layer is told
@@ -27,7 +27,7 @@ abbrev pub word : Layer-name → List ℕ
 word tape = codes "tape"
 word map = codes "map"
 word rule = codes "rule"
-word search-layer = codes "search"
+word search = codes "search"
 word listing = codes "listing"
 
 abbrev pub listing-number : ListingCause → ℕ
@@ -37,7 +37,7 @@ abbrev pub layer-name : Layer → Layer-name
 layer-name (Tape cause) = tape
 layer-name (Map cause) = map
 layer-name (Rule cause) = rule
-layer-name (Search cause) = search-layer
+layer-name (Search cause) = search
 layer-name (Listing cause) = listing
 
 abbrev pub layer-number : Layer → ℕ

@@ -28,7 +28,7 @@ use Rattle.tape.specs.declared.command.RuleName.the-variants.{Flat, Point, Pair
 use Rattle.tape.specs.Refusals.{cause-number}
 use Rattle.tape.specs.Commands.{Said, lay, strike, retime, name, set-flat, set-point, set-pair, use-rule, ask}
 use Rattle.tape.specs.Reading.{Read, decode}
-use Rattle.player.specs.Faults.{Layer-name, Told-fault, tape, map, rule, search-layer, listing}
+use Rattle.player.specs.Faults.{Layer-name, Told-fault, tape, map, rule, search, listing}
 use Rattle.player.specs.Lines.{Reply, line-of}
 
 -- what a play keeps: the map, the settings of the three rules, and the rule for later questions
@@ -91,7 +91,7 @@ step d (set-flat setting) = done (with-flat d setting)
 step d (set-point point setting) = unless-refused rule (point-answer point) (done (with-point d (point-after (d .point) point setting)))
 step d (set-pair arriving leaving setting) = unless-refused rule (pair-answer arriving leaving) (done (with-pair d (pair-after (d .pair) arriving leaving setting)))
 step d (use-rule r) = done (with-rule d r)
-step d (ask kind home mark) = unless-refused search-layer (route-checks (d .map) home mark most-runs most-runs) (asked kind home mark)
+step d (ask kind home mark) = unless-refused search (route-checks (d .map) home mark most-runs most-runs) (asked kind home mark)
 
 -- a reply is right on the map and by the rule of the desk: a cheapest legal walk that repeats no run, or no way where there is none
 abbrev pub question : Desk → KindName → (home : ℕ) → Task ℕ
