@@ -1,4 +1,4 @@
-pub mod Obeyed
+pub mod Turns
 pub mod Spool
 pub mod Relaid
 pub mod Renamed

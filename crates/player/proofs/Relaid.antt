@@ -14,9 +14,9 @@ use Rattle.track.specs.Answers.{Answer, gave, if-gave}
 use Rattle.track.specs.Map.{Map, lay-answer, run-answer, stricken, altered}
 use Rattle.tape.specs.Commands.{lay, strike}
 use Rattle.tape.specs.Tape.{numbered, run-commands}
-use Rattle.player.specs.Faults.{map}
+use Rattle.player.specs.Faults.{in-map}
 use Rattle.player.specs.Play.{Desk, with-map, step, done, unless-refused}
-use Rattle.player.proofs.Obeyed.{Obeyed, obeyed-append}
+use Rattle.player.proofs.Turns.{All-done, done-append}
 
 -- the desk with these runs and names on its map
 abbrev pub holding : Desk → List Run → List (List ℕ) → Desk
@@ -39,7 +39,7 @@ laid-last : (d : Desk) (names : List (List ℕ)) (front : List Run) (x : Run) �
     → step (holding d front names) (lay (x .tail) (x .head) (x .winch) (x .time) (x .strain)) ≡ done (holding d (front ++ marked x false ∷ []) names)
 laid-last d names front x ok room =
     let m : Map = record { runs = front; names = names } in
-    ap (λ (a : Answer ℕ). unless-refused map a (done (with-map d (if-gave a (record { runs = front ++ marked x false ∷ []; names = names }) m)))) (lay-accepted m x ok room)
+    ap (λ (a : Answer ℕ). unless-refused in-map a (done (with-map d (if-gave a (record { runs = front ++ marked x false ∷ []; names = names }) m)))) (lay-accepted m x ok room)
 
 struck-last : (d : Desk) (names : List (List ℕ)) (front : List Run) (x : Run) (k : ℕ) → length front ≡ k
     → step (holding d (front ++ marked x false ∷ []) names) (strike k) ≡ done (holding d (front ++ marked x true ∷ []) names)
@@ -48,12 +48,12 @@ struck-last d names front x k e =
     let l = length-push front (marked x false) in
     let within : k < length (m .runs) = omega arith in
     let last = getD-at front (marked x false) [] idle k e in
-    ap (λ (a : Answer (Unit {0})). unless-refused map a (done (with-map d (if-gave a (altered m k stricken) m)))) (run-accepted m k within (ap (λ (r : Run). r .struck) last))
+    ap (λ (a : Answer (Unit {0})). unless-refused in-map a (done (with-map d (if-gave a (altered m k stricken) m)))) (run-accepted m k within (ap (λ (r : Run). r .struck) last))
     ∙ ap (λ (rs : List Run). done (holding d rs names))
     (ap (λ (r : Run). set (m .runs) k (stricken r)) last ∙ set-at front (marked x false) [] (marked x true) k e)
 
 run-again : (d : Desk) (names : List (List ℕ)) (front : List Run) (x : Run) (k : ℕ) → length front ≡ k → k < most-runs → run-ok x ≡ true
-    → Obeyed (holding d front names) (run-commands k x) (holding d (front ++ x ∷ []) names)
+    → All-done (holding d front names) (run-commands k x) (holding d (front ++ x ∷ []) names)
 run-again d names front x k e room ok = go (x .struck) refl
   where
     lays : step (holding d front names) (lay (x .tail) (x .head) (x .winch) (x .time) (x .strain)) ≡ done (holding d (front ++ marked x false ∷ []) names)
@@ -63,7 +63,7 @@ run-again d names front x k e room ok = go (x .struck) refl
     as-marked b s = ap (λ (c : Bool). holding d (front ++ marked x c ∷ []) names) (sym s)
 
     go : (b : Bool) → x .struck ≡ b
-        → Obeyed (holding d front names) (lay (x .tail) (x .head) (x .winch) (x .time) (x .strain) ∷ cond b (strike k ∷ []) []) (holding d (front ++ x ∷ []) names)
+        → All-done (holding d front names) (lay (x .tail) (x .head) (x .winch) (x .time) (x .strain) ∷ cond b (strike k ∷ []) []) (holding d (front ++ x ∷ []) names)
     go false s = (holding d (front ++ marked x false ∷ []) names, time-fits x ok, lays, as-marked false s)
     go true s = (
       holding d (front ++ marked x false ∷ []) names,
@@ -75,14 +75,14 @@ run-again d names front x k e room ok = go (x .struck) refl
 -- behind the runs that are laid already
 pub runs-again : (d : Desk) (names : List (List ℕ)) (front xs : List Run) (k : ℕ) → length front ≡ k → k + length xs ≤ most-runs
     → ((i : ℕ) → i < length xs → run-ok (getD xs i idle) ≡ true)
-    → Obeyed (holding d front names) (numbered run-commands k xs) (holding d (front ++ xs) names)
+    → All-done (holding d front names) (numbered run-commands k xs) (holding d (front ++ xs) names)
 runs-again d names front [] k e room ok = ap (λ (rs : List Run). holding d rs names) (sym (append-nil front))
 runs-again d names front (x ∷ xs) k e room ok =
     let l = length-push front x in
     let size : length (front ++ x ∷ []) ≡ suc k = omega arith in
     let now : k < most-runs = omega arith in
     let later : suc k + length xs ≤ most-runs = omega arith in
-    obeyed-append (holding d front names) (holding d (front ++ x ∷ []) names) (holding d (front ++ x ∷ xs) names) (run-commands k x) (numbered run-commands (suc k) xs)
+    done-append (holding d front names) (holding d (front ++ x ∷ []) names) (holding d (front ++ x ∷ xs) names) (run-commands k x) (numbered run-commands (suc k) xs)
     (run-again d names front x k e now (ok 0 (omega arith)))
-    (subst (λ (rs : List Run). Obeyed (holding d (front ++ x ∷ []) names) (numbered run-commands (suc k) xs) (holding d rs names)) (append-assoc front (x ∷ []) xs)
+    (subst (λ (rs : List Run). All-done (holding d (front ++ x ∷ []) names) (numbered run-commands (suc k) xs) (holding d rs names)) (append-assoc front (x ∷ []) xs)
     (runs-again d names (front ++ x ∷ []) xs (suc k) size later (λ i h. ok (suc i) (omega arith))))

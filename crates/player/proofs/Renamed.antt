@@ -16,9 +16,9 @@ use Rattle.track.specs.Answers.{Answer, gave, if-gave}
 use Rattle.track.specs.Map.{Map, name-answer}
 use Rattle.tape.specs.Commands.{name}
 use Rattle.tape.specs.Tape.{numbered, name-commands}
-use Rattle.player.specs.Faults.{map}
+use Rattle.player.specs.Faults.{in-map}
 use Rattle.player.specs.Play.{Desk, with-map, step, done, unless-refused}
-use Rattle.player.proofs.Obeyed.{Obeyed, obeyed-append}
+use Rattle.player.proofs.Turns.{All-done, done-append}
 use Rattle.player.proofs.Relaid.{holding}
 
 name-accepted : (point : ℕ) (text : List ℕ) → point < points → name-ok text ≡ true → name-answer point text ≡ gave tt
@@ -35,22 +35,22 @@ named-next : (d : Desk) (runs : List Run) (front rest : List (List ℕ)) (was te
     → step (holding d runs (front ++ was ∷ rest)) (name k text) ≡ done (holding d runs (front ++ text ∷ rest))
 named-next d runs front rest was text k e room ok =
     let m : Map = record { runs = runs; names = front ++ was ∷ rest } in
-    ap (λ (a : Answer (Unit {0})). unless-refused map a (done (with-map d (if-gave a (record { runs = runs; names = set (front ++ was ∷ rest) k text }) m)))) (name-accepted k text room ok)
+    ap (λ (a : Answer (Unit {0})). unless-refused in-map a (done (with-map d (if-gave a (record { runs = runs; names = set (front ++ was ∷ rest) k text }) m)))) (name-accepted k text room ok)
     ∙ ap (λ (ns : List (List ℕ)). done (holding d runs ns)) (set-at front was rest text k e)
 
 name-again : (d : Desk) (runs : List Run) (front rest : List (List ℕ)) (text : List ℕ) (k : ℕ) → length front ≡ k → k < points → name-ok text ≡ true
-    → Obeyed (holding d runs (front ++ no-name ∷ rest)) (name-commands k text) (holding d runs (front ++ text ∷ rest))
+    → All-done (holding d runs (front ++ no-name ∷ rest)) (name-commands k text) (holding d runs (front ++ text ∷ rest))
 name-again d runs front rest text k e room ok = go (sameBytes text no-name) refl
   where
     go : (b : Bool) → sameBytes text no-name ≡ b
-        → Obeyed (holding d runs (front ++ no-name ∷ rest)) (cond b [] (name k text ∷ [])) (holding d runs (front ++ text ∷ rest))
+        → All-done (holding d runs (front ++ no-name ∷ rest)) (cond b [] (name k text ∷ [])) (holding d runs (front ++ text ∷ rest))
     go true s = ap (λ (t : List ℕ). holding d runs (front ++ t ∷ rest)) (sym (sameBytes-decides text no-name .0 s))
     go false s = (holding d runs (front ++ text ∷ rest), eight-bytes text ok, named-next d runs front rest no-name text k e room ok, refl)
 
 -- behind the points that are named already
 pub names-again : (d : Desk) (runs : List Run) (front ts : List (List ℕ)) (k : ℕ) → length front ≡ k → k + length ts ≤ points
     → ((i : ℕ) → i < length ts → name-ok (getD ts i []) ≡ true)
-    → Obeyed (holding d runs (front ++ blanks ts)) (numbered name-commands k ts) (holding d runs (front ++ ts))
+    → All-done (holding d runs (front ++ blanks ts)) (numbered name-commands k ts) (holding d runs (front ++ ts))
 names-again d runs front [] k e room ok = refl
 names-again d runs front (t ∷ ts) k e room ok =
     let l = length-push front t in
@@ -58,8 +58,8 @@ names-again d runs front (t ∷ ts) k e room ok =
     let now : k < points = omega arith in
     let later : suc k + length ts ≤ points = omega arith in
     let regroup = append-assoc front (t ∷ []) in
-    obeyed-append (holding d runs (front ++ no-name ∷ blanks ts)) (holding d runs (front ++ t ∷ blanks ts)) (holding d runs (front ++ t ∷ ts)) (name-commands k t) (numbered name-commands (suc k) ts)
+    done-append (holding d runs (front ++ no-name ∷ blanks ts)) (holding d runs (front ++ t ∷ blanks ts)) (holding d runs (front ++ t ∷ ts)) (name-commands k t) (numbered name-commands (suc k) ts)
     (name-again d runs front (blanks ts) t k e now (ok 0 (omega arith)))
-    (subst (λ (ns : List (List ℕ)). Obeyed (holding d runs ns) (numbered name-commands (suc k) ts) (holding d runs (front ++ t ∷ ts))) (regroup (blanks ts))
-    (subst (λ (ns : List (List ℕ)). Obeyed (holding d runs ((front ++ t ∷ []) ++ blanks ts)) (numbered name-commands (suc k) ts) (holding d runs ns)) (regroup ts)
+    (subst (λ (ns : List (List ℕ)). All-done (holding d runs ns) (numbered name-commands (suc k) ts) (holding d runs (front ++ t ∷ ts))) (regroup (blanks ts))
+    (subst (λ (ns : List (List ℕ)). All-done (holding d runs ((front ++ t ∷ []) ++ blanks ts)) (numbered name-commands (suc k) ts) (holding d runs ns)) (regroup ts)
     (names-again d runs (front ++ t ∷ []) ts (suc k) size later (λ i h. ok (suc i) (omega arith)))))

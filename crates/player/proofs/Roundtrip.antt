@@ -12,25 +12,25 @@ use Rattle.track.specs.Calls.{map-of}
 use Rattle.tape.specs.Tape.{numbered, run-commands, name-commands, commands-of, tape-of}
 use Rattle.player.specs.Play.{new-desk, with-map, Outcome}
 use Rattle.player.specs.Roundtrip.{Sound-map, Rigs-are-sound, Round-trip, Equal-rig, Tapes-play-back}
-use Rattle.player.proofs.Obeyed.{Obeyed, obeyed-append}
-use Rattle.player.proofs.Spool.{obeyed-plays, obeyed-asks-nothing}
+use Rattle.player.proofs.Turns.{All-done, done-append}
+use Rattle.player.proofs.Spool.{done-plays, done-asks-nothing}
 use Rattle.player.proofs.Relaid.{holding, runs-again}
 use Rattle.player.proofs.Renamed.{names-again}
 
--- a new desk obeys the commands of a map, and has that map in the end
-all-again : (m : Map) → Sound-map m → Obeyed new-desk (commands-of m) (with-map new-desk m)
+-- the commands of a map lead from a new desk to one with that map
+all-again : (m : Map) → Sound-map m → All-done new-desk (commands-of m) (with-map new-desk m)
 all-again m s =
-    obeyed-append new-desk (holding new-desk (m .runs) (replicate points no-name)) (with-map new-desk m) (numbered run-commands 0 (m .runs)) (numbered name-commands 0 (m .names))
+    done-append new-desk (holding new-desk (m .runs) (replicate points no-name)) (with-map new-desk m) (numbered run-commands 0 (m .runs)) (numbered name-commands 0 (m .names))
     (runs-again new-desk (replicate points no-name) [] (m .runs) 0 refl (omega arith) (s .sound))
-    (subst (λ (n : ℕ). Obeyed (holding new-desk (m .runs) (replicate n no-name)) (numbered name-commands 0 (m .names)) (with-map new-desk m)) (s .named)
+    (subst (λ (n : ℕ). All-done (holding new-desk (m .runs) (replicate n no-name)) (numbered name-commands 0 (m .names)) (with-map new-desk m)) (s .named)
     (names-again new-desk (m .runs) [] (m .names) 0 refl (omega arith) (λ p h. s .legible p (omega arith))))
 
 pub round-trip : Round-trip
 unfolding tape-of
 round-trip m s =
     record {
-      asks-nothing = obeyed-asks-nothing 0 new-desk (with-map new-desk m) (commands-of m) (all-again m s);
-      makes-it = obeyed-plays 0 new-desk (with-map new-desk m) (commands-of m) (all-again m s);
+      asks-nothing = done-asks-nothing 0 new-desk (with-map new-desk m) (commands-of m) (all-again m s);
+      makes-it = done-plays 0 new-desk (with-map new-desk m) (commands-of m) (all-again m s);
     }
 
 pub rigs-are-sound : Rigs-are-sound

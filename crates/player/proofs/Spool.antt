@@ -11,7 +11,7 @@ use Rattle.tape.specs.Reading.{Read, Sized, decode}
 use Rattle.tape.proofs.Back.{reads-back}
 use Rattle.player.specs.Lines.{Reply}
 use Rattle.player.specs.Play.{Desk, Item, Step, then, items, ends, goes, played, Right-step, Replies-right}
-use Rattle.player.proofs.Obeyed.{Obeyed}
+use Rattle.player.proofs.Turns.{All-done}
 
 -- a command that was read at this place
 abbrev item : (place : ℕ) → Said → Item
@@ -48,21 +48,21 @@ pub one-command : (place : ℕ) (c : Said) (rest : List ℕ) → Sized c
     → items place 0 (bytes-of c ++ rest) ≡ item place c ∷ items (place + length (bytes-of c)) 0 rest
 one-command place c rest h = first-item place (bytes-of c) rest c (some-byte c) (reads-back c rest h)
 
--- commands that are obeyed lead to the desk that they lead to, whatever replies and room there are
-pub obeyed-plays : (place : ℕ) (d e : Desk) (cs : List Said) → Obeyed d cs e → (replies : List Reply) (room : ℕ)
+-- and a play of them ends at the desk that they lead to, whatever replies and room there are
+pub done-plays : (place : ℕ) (d e : Desk) (cs : List Said) → All-done d cs e → (replies : List Reply) (room : ℕ)
     → played d (items place 0 (joined bytes-of cs)) replies room ≡ ends e
-obeyed-plays place d e [] h replies room = ap ends h
-obeyed-plays place d e (c ∷ cs) (b, z, s, h) replies room =
+done-plays place d e [] h replies room = ap ends h
+done-plays place d e (c ∷ cs) (b, z, s, h) replies room =
     let next = place + length (bytes-of c) in
     ap (λ (is : List Item). played d is replies room) (one-command place c (joined bytes-of cs) z)
     ∙ ap (λ (t : Step). goes t d place replies room (λ f qs left. played f (items next 0 (joined bytes-of cs)) qs left)) s
-    ∙ obeyed-plays next b e cs h replies room
+    ∙ done-plays next b e cs h replies room
 
--- and put no question
-pub obeyed-asks-nothing : (place : ℕ) (d e : Desk) (cs : List Said) → Obeyed d cs e → (room : ℕ) → Replies-right d (items place 0 (joined bytes-of cs)) [] room
-obeyed-asks-nothing place d e [] h room = refl
-obeyed-asks-nothing place d e (c ∷ cs) (b, z, s, h) room =
+-- and puts no question
+pub done-asks-nothing : (place : ℕ) (d e : Desk) (cs : List Said) → All-done d cs e → (room : ℕ) → Replies-right d (items place 0 (joined bytes-of cs)) [] room
+done-asks-nothing place d e [] h room = refl
+done-asks-nothing place d e (c ∷ cs) (b, z, s, h) room =
     let next = place + length (bytes-of c) in
     subst (λ (is : List Item). Replies-right d is [] room) (sym (one-command place c (joined bytes-of cs) z))
     (subst (λ (t : Step). Right-step t d [] room (λ f qs left. Replies-right f (items next 0 (joined bytes-of cs)) qs left)) (sym s)
-    (obeyed-asks-nothing next b e cs h room))
+    (done-asks-nothing next b e cs h room))

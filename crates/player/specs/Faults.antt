@@ -16,29 +16,29 @@ use Rattle.player.specs.declared.fault.Fault.{Fault}
 
 -- the five layers
 pub data Layer-name : Type 0 where
-  tape : Layer-name
-  map : Layer-name
-  rule : Layer-name
-  search : Layer-name
-  listing : Layer-name
+  in-tape : Layer-name
+  in-map : Layer-name
+  in-rule : Layer-name
+  in-search : Layer-name
+  in-listing : Layer-name
 
 -- the word by which a layer is told
 abbrev pub word : Layer-name → List ℕ
-word tape = codes "tape"
-word map = codes "map"
-word rule = codes "rule"
-word search = codes "search"
-word listing = codes "listing"
+word in-tape = codes "tape"
+word in-map = codes "map"
+word in-rule = codes "rule"
+word in-search = codes "search"
+word in-listing = codes "listing"
 
 abbrev pub listing-number : ListingCause → ℕ
 listing-number NoRoom = 18
 
 abbrev pub layer-name : Layer → Layer-name
-layer-name (Tape cause) = tape
-layer-name (Map cause) = map
-layer-name (Rule cause) = rule
-layer-name (Search cause) = search
-layer-name (Listing cause) = listing
+layer-name (Tape cause) = in-tape
+layer-name (Map cause) = in-map
+layer-name (Rule cause) = in-rule
+layer-name (Search cause) = in-search
+layer-name (Listing cause) = in-listing
 
 abbrev pub layer-number : Layer → ℕ
 layer-number (Tape cause) = tape-number cause

@@ -28,7 +28,7 @@ use Rattle.tape.specs.declared.command.RuleName.the-variants.{Flat, Point, Pair
 use Rattle.tape.specs.Refusals.{cause-number}
 use Rattle.tape.specs.Commands.{Said, lay, strike, retime, name, set-flat, set-point, set-pair, use-rule, ask}
 use Rattle.tape.specs.Reading.{Read, decode}
-use Rattle.player.specs.Faults.{Layer-name, Told-fault, tape, map, rule, search, listing}
+use Rattle.player.specs.Faults.{Layer-name, Told-fault, in-tape, in-map, in-rule, in-search, in-listing}
 use Rattle.player.specs.Lines.{Reply, line-of}
 
 -- what a play keeps: the map, the settings of the three rules, and the rule for later questions
@@ -83,15 +83,15 @@ unless-refused layer (gave x) s = s
 unless-refused layer (refused n) s = failed n layer
 
 abbrev pub step : Desk → Said → Step
-step d (lay tail head winch time strain) = unless-refused map (lay-answer (d .map) tail head winch strain) (done (with-map d (after (d .map) (Lay tail head winch time strain))))
-step d (strike run) = unless-refused map (run-answer (d .map) run) (done (with-map d (after (d .map) (Strike run))))
-step d (retime run time) = unless-refused map (run-answer (d .map) run) (done (with-map d (after (d .map) (Retime run time))))
-step d (name point text) = unless-refused map (name-answer point text) (done (with-map d (after (d .map) (Name point text))))
+step d (lay tail head winch time strain) = unless-refused in-map (lay-answer (d .map) tail head winch strain) (done (with-map d (after (d .map) (Lay tail head winch time strain))))
+step d (strike run) = unless-refused in-map (run-answer (d .map) run) (done (with-map d (after (d .map) (Strike run))))
+step d (retime run time) = unless-refused in-map (run-answer (d .map) run) (done (with-map d (after (d .map) (Retime run time))))
+step d (name point text) = unless-refused in-map (name-answer point text) (done (with-map d (after (d .map) (Name point text))))
 step d (set-flat setting) = done (with-flat d setting)
-step d (set-point point setting) = unless-refused rule (point-answer point) (done (with-point d (point-after (d .point) point setting)))
-step d (set-pair arriving leaving setting) = unless-refused rule (pair-answer arriving leaving) (done (with-pair d (pair-after (d .pair) arriving leaving setting)))
+step d (set-point point setting) = unless-refused in-rule (point-answer point) (done (with-point d (point-after (d .point) point setting)))
+step d (set-pair arriving leaving setting) = unless-refused in-rule (pair-answer arriving leaving) (done (with-pair d (pair-after (d .pair) arriving leaving setting)))
 step d (use-rule r) = done (with-rule d r)
-step d (ask kind home mark) = unless-refused search (route-checks (d .map) home mark most-runs most-runs) (asked kind home mark)
+step d (ask kind home mark) = unless-refused in-search (route-checks (d .map) home mark most-runs most-runs) (asked kind home mark)
 
 -- a reply is right on the map and by the rule of the desk: a cheapest legal walk that repeats no run, or no way where there is none
 abbrev pub question : Desk → KindName → (home : ℕ) → Task ℕ
@@ -133,7 +133,7 @@ behind line o = record { desk = o .desk; text = line ++ o .text; fault = o .faul
 
 -- a line that fits is written, and play goes on; one that does not is the fault 18
 abbrev pub listed : Desk → (place : ℕ) → (line : List ℕ) → (room : ℕ) → (ℕ → Outcome) → Outcome
-listed d place line room on = cond (leb (length line) room) (behind line (on (room - length line))) (faults d 18 place listing)
+listed d place line room on = cond (leb (length line) room) (behind line (on (room - length line))) (faults d 18 place in-listing)
 
 -- the next reply answers the question; there is always one, see Replies-right
 abbrev pub replied : Desk → (place : ℕ) → KindName → (home mark : ℕ) → List Reply → (room : ℕ) → (List Reply → ℕ → Outcome) → Outcome
@@ -148,7 +148,7 @@ goes (asked kind home mark) d place rs room on = replied d place kind home mark 
 -- a command that cannot be read is a fault of the tape
 abbrev pub unless-unread : Result Said ℕ → Desk → (place : ℕ) → (Said → Outcome) → Outcome
 unless-unread (Ok c) d place on = on c
-unless-unread (Err n) d place on = faults d n place tape
+unless-unread (Err n) d place on = faults d n place in-tape
 
 abbrev pub played : Desk → List Item → List Reply → (room : ℕ) → Outcome
 played d [] rs room = ends d
