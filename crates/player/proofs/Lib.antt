@@ -1,4 +1,4 @@
-pub mod Turns
+pub mod Undisturbed
 pub mod Spool
 pub mod Relaid
 pub mod Renamed

@@ -16,7 +16,7 @@ use Rattle.tape.specs.Commands.{lay, strike}
 use Rattle.tape.specs.Tape.{numbered, run-commands}
 use Rattle.player.specs.Faults.{in-map}
 use Rattle.player.specs.Play.{Desk, with-map, step, done, unless-refused}
-use Rattle.player.proofs.Turns.{All-done, done-append}
+use Rattle.player.proofs.Undisturbed.{All-done, done-append}
 
 -- the desk with these runs and names on its map
 abbrev pub holding : Desk → List Run → List (List ℕ) → Desk

@@ -18,7 +18,7 @@ use Rattle.tape.specs.Commands.{name}
 use Rattle.tape.specs.Tape.{numbered, name-commands}
 use Rattle.player.specs.Faults.{in-map}
 use Rattle.player.specs.Play.{Desk, with-map, step, done, unless-refused}
-use Rattle.player.proofs.Turns.{All-done, done-append}
+use Rattle.player.proofs.Undisturbed.{All-done, done-append}
 use Rattle.player.proofs.Relaid.{holding}
 
 name-accepted : (point : ℕ) (text : List ℕ) → point < points → name-ok text ≡ true → name-answer point text ≡ gave tt

@@ -11,7 +11,7 @@ use Rattle.tape.specs.Reading.{Read, Sized, decode}
 use Rattle.tape.proofs.Back.{reads-back}
 use Rattle.player.specs.Lines.{Reply}
 use Rattle.player.specs.Play.{Desk, Item, Step, then, items, ends, goes, played, Right-step, Replies-right}
-use Rattle.player.proofs.Turns.{All-done}
+use Rattle.player.proofs.Undisturbed.{All-done}
 
 -- a command that was read at this place
 abbrev item : (place : ℕ) → Said → Item
