@@ -3,3 +3,4 @@ pub mod Spool
 pub mod Relaid
 pub mod Renamed
 pub mod Roundtrip
+pub mod Copied
