@@ -1,3 +1,7 @@
+pub mod Fields
+pub mod Replies
+pub mod Outcomes
+pub mod Turns
 pub mod Undisturbed
 pub mod Spool
 pub mod Relaid

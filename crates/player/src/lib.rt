@@ -1,3 +1,6 @@
-pub mod fault;
-pub mod theorems;
 pub mod copy;
+mod desk;
+pub mod fault;
+mod listing;
+pub mod play;
+pub mod theorems;

@@ -58,6 +58,14 @@ module _ {C : Type 0} {N : Net C} (laws : Lawful-net N) where
   pub below-flip : (a b : C) → N .at-most a b ≡ false → Below N b a
   below-flip a b h = elim (laws .total a b) [ inl t ↦ absurd (both-ways (N .at-most a b) h t) | inr t ↦ t ]
 
+  onward-fits : (q : ℕ) (b : C) (w : List ℕ) (r : ℕ) (c : C) → N .fits b ≡ true → Onward N q b w r c → N .fits c ≡ true
+  onward-fits q b [] r c fit (same, cost) = subst (λ (x : C). N .fits x ≡ true) cost fit
+  onward-fits q b (s ∷ w) r c fit (d, go, on) = onward-fits s d w r c (laws .after-fits q s b d fit go) on
+
+  pub way-fits : (w : List ℕ) (r : ℕ) (c : C) → Way N w r c → N .fits c ≡ true
+  way-fits [] r c way = absurd way
+  way-fits (q ∷ w) r c (b, go, on) = onward-fits q b w r c (laws .first-fits q b go) on
+
   module _ {L : ℕ → Option C} (starts : Starts N L) (closes : Closes N L) where
     onward-bound : (q : ℕ) (b : C) (w : List ℕ) (r : ℕ) (c : C) → Has N L q b → Onward N q b w r c → Has N L r c
     onward-bound q b [] r c has (same, cost) = subst (λ (x : C). Has N L r x) cost (subst (λ (x : ℕ). Has N L x b) same has)

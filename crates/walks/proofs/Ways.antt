@@ -14,17 +14,9 @@ use Rattle.walks.specs.Kinds.{Kind, Lawful, Le, Fits}
 use Rattle.walks.specs.Rules.{Rule}
 use Rattle.walks.specs.Walks.{run-at, Walk, Legal, joint, penalty-of, differ, along, onto, onward}
 use Rattle.walks.specs.Cheapest.{Task, task, price, last, Ends-with}
+use Rattle.walks.specs.Moves.{begin-cost, follow-cost}
 use Rattle.walks.specs.Labels.{Labels, Labelled, Started, Closed, Labels-bound}
 use Rattle.walks.proofs.Net.{Net, Lawful-net, Way, Onward, Starts, Closes, bound}
-
--- the cost of the walk of the one run x, if it is one from the home
-abbrev pub begin-cost : {C : Type 0} → Kind C → (home : ℕ) → Run → Option C
-begin-cost k home x = cond (not (x .struck) && eqb (x .tail) home) (Some (along k (k .start) x)) None
-
--- what the cost c of a walk that ends with x becomes once y follows, if it may
-abbrev pub follow-cost : {C : Type 0} → Kind C → Rule → (x y : Run) → C → Option C
-follow-cost k t x y c =
-    cond (not (y .struck) && eqb (y .tail) (x .head)) (mapped (λ penalty. along k (k .over c penalty (differ x y)) y) (joint t x y)) None
 
 abbrev pub net : {C : Type 0} → Task C → Net C
 net k = record {

@@ -2,6 +2,7 @@ pub mod Kinds
 pub mod Rules
 pub mod Walks
 pub mod Cheapest
+pub mod Moves
 pub mod Labels
 pub mod Costs
 pub mod Refusals

@@ -1,0 +1,7 @@
+mod Numbers
+mod Spaces
+mod Feeds
+mod Backs
+mod Sheets
+mod Uses
+mod Hexes
