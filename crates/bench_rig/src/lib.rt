@@ -1,114 +1,48 @@
+// The survey as the benchmark's C++ calls it.
+mod costs;
+pub mod given;
+
 ghost use mathlib.Core.Path.{_≡_};
-ghost use Prim.Native.Nat.{_*_, _<_, _≤_};
+ghost use mathlib.Core.Bool.{true, false, _&&_};
+ghost use Prim.Native.Nat.{_*_};
+ghost use lib.Dec.{leb};
 ghost use lib.ListN.{length};
-ghost use Rattle.track.specs.Sizes.{points, most-runs};
+ghost use Rattle.track.specs.Sizes.{points};
+ghost use Rattle.track.specs.Calls.{map-after};
+ghost use Rattle.walks.specs.Cheapest.{task};
+ghost use Rattle.walks.specs.Costs.{time-kind};
+ghost use Rattle.walks.specs.Settings.{pair-rule};
+ghost use Rattle.bench_rig.specs.Given.{lays, settings-after};
+ghost use Rattle.bench_rig.specs.Costs.{Rows-left};
+use costs::survey_homes;
+use given::GivenRun;
+use given::GivenSetting;
+use given::lay_all;
+use given::set_all;
 use routing::place::Place;
-use routing::survey::survey;
-use track::rig::GetIn;
-use track::rig::Show;
 use track::run::MOST_RUNS;
 use track::run::POINTS;
-use walks::by_pair::ByPair;
-use walks::by_pair::PairRule;
-use walks::time::Time;
-use walks::time::TimeKind;
 
-/// The number for a point that no legal walk leads to.
-const NO_WALK: u32 = u32::MAX;
-
-/// A run to be laid.
-#[repr(C)]
-#[derive(Clone, Copy, Drop)]
-pub struct GivenRun {
-    pub tail: u8,
-    pub head: u8,
-    pub winch: u8,
-    pub strain: u8,
-    pub time: u16,
-}
-
-/// A setting of the pair rule.
-#[repr(C)]
-#[derive(Clone, Copy, Drop)]
-pub struct GivenSetting {
-    pub arriving: u8,
-    pub leaving: u8,
-    pub setting: u16,
-}
-
-fn rig_of(runs: &[GivenRun]) -> GetIn {
-    let mut rig = GetIn::new();
-    for run in runs {
-        let _ = rig.lay(run.tail, run.head, run.winch, run.time, run.strain);
-    }
-    rig
-}
-
-fn rule_of(settings: &[GivenSetting]) -> ByPair {
-    let mut rule = ByPair::new();
-    for given in settings {
-        let _ = rule.set(given.arriving, given.leaving, given.setting);
-    }
-    rule
-}
-
-fn cost_of(place: Place<u32>) -> u32 {
-    match place {
-        Place::Absent => NO_WALK,
-        Place::Reached { cost, run: _ } => cost,
-    }
-}
-
-fn write_costs(board: &[Place<u32>], row: &mut [u32])
-    requires { ⌜ length (now board) ≡ length (now row) ⌝ }
-{
-    for v in 0..board.len() {
-        row[v] = cost_of(board[v]);
-    }
-}
-
-fn survey_home(
-    rig: &Show,
-    rule: &ByPair,
-    home: u8,
-    table: &mut [Place<u32>],
-    board: &mut [Place<u32>],
-    row: &mut [u32],
-)
-    requires { ⌜ length (now board) ≡ length (now row) ⌝ }
-{
-    let _ = survey(rig, &Time, rule, home, table, board);
-    write_costs(board, row);
-}
-
-fn survey_homes(
-    rig: &Show,
-    rule: &ByPair,
-    homes: u8,
-    table: &mut [Place<u32>],
-    board: &mut [Place<u32>],
-    costs: &mut [u32],
-)
-    requires { ⌜ length (now board) ≡ points ⌝ ∗ ⌜ points * homes ≤ length (now costs) ⌝ ∗ ⌜ homes ≤ points ⌝ }
-{
-    for home in 0..homes {
-        let at = POINTS * home as usize;
-        survey_home(rig, rule, home, table, board, &mut costs[at..at + POINTS]);
-    }
-}
-
+/// Lays the runs on a new rig, sets a new pair rule, and surveys by time from each of the points below `homes`.
+/// The cost of the point v from the home h then stands in place 128 h + v of `costs`: 4,294,967,295 where there is no legal walk.
+///
+/// Answers whether there are so many points and `costs` has the places; where not, it leaves `costs` as it was.
 #[unsafe(no_mangle)]
 pub extern "C" fn bench_surveys(
     runs: &[GivenRun],
     settings: &[GivenSetting],
     homes: u8,
     costs: &mut [u32],
-) -> bool {
+) -> bool
+    ensures answer { λ r. ⌜ r ≡ (leb homes points && leb (points * homes) (length (now (costs .entry)))) ⌝ }
+    ensures surveyed { λ r. ⌜ (r ≡ true → Rows-left (λ home. task time-kind (pair-rule (settings-after (now (settings .entry)))) (map-after (lays (now (runs .entry))) .runs) home) homes (now (costs .entry)) (now (costs .exit))) ⌝ }
+    ensures refused { λ r. ⌜ (r ≡ false → now (costs .exit) ≡ now (costs .entry)) ⌝ }
+{
     if homes as usize > POINTS || costs.len() < POINTS * homes as usize {
         return false;
     }
-    let rig = rig_of(runs).open();
-    let rule = rule_of(settings);
+    let rig = lay_all(runs).open();
+    let rule = set_all(settings);
     let mut table = [Place::Absent; MOST_RUNS];
     let mut board = [Place::Absent; POINTS];
     survey_homes(&rig, &rule, homes, &mut table, &mut board, costs);
