@@ -133,8 +133,8 @@ fn relax<K: CostKind, R: HandoverRule>(
     let last = runs[run];
     let before = run as u16;
     for i in 0..runs.len() {
+        let offer = follow(kind, rule, last, runs[i], cost);
         if !taken[i] {
-            let offer = follow(kind, rule, last, runs[i], cost);
             improve(kind, before, offer, &mut table[i]);
         }
     }
