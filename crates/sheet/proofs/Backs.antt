@@ -24,7 +24,8 @@ use Rattle.std.specs.declared.option.Option.the-variants.{Some, None}
 use Rattle.track.specs.Map.{Call}
 use Rattle.track.specs.Map.Call.{Lay, Strike, Retime, Name, Open, Close, Write, Survey, Route}
 use Rattle.sheet.proofs.Feeds.{No-feed, lines-more}
-use Rattle.sheet.specs.Words.{_>>=_, trimmed, word, behind, value, number, next, says, said-call, calls}
+use Rattle.sheet.specs.Scan.{_>>=_, trimmed, word, behind, value, number, next}
+use Rattle.sheet.specs.Words.{says, said-as, calls}
 use Rattle.sheet.specs.Sheet.{lines, called, sheet-calls}
 use Rattle.sheet.specs.Plain.{words-of, Sayable, Call-reads-back, Sheet-reads-back, sheet-of, spaced}
 
@@ -74,17 +75,17 @@ next-reads most n rest f fits wide gap =
 
 pub call-reads-back : Call-reads-back
 call-reads-back (Lay tail head winch time strain) h =
-    ap said-call (
+    ap (said-as calls) (
     next-reads 255 tail _ _ (omega arith) (omega arith) refl
     ∙ next-reads 255 head _ _ (omega arith) (omega arith) refl
     ∙ next-reads 255 winch _ _ (omega arith) (omega arith) refl
     ∙ next-reads 65535 time _ _ (omega arith) (omega arith) refl
     ∙ next-reads 255 strain [] _ (omega arith) (omega arith) refl
     )
-call-reads-back (Strike run) h = ap said-call (next-reads 65535 run [] _ (omega arith) (omega arith) refl)
+call-reads-back (Strike run) h = ap (said-as calls) (next-reads 65535 run [] _ (omega arith) (omega arith) refl)
 call-reads-back (Retime run time) h =
-    ap said-call (next-reads 65535 run _ _ (omega arith) (omega arith) refl ∙ next-reads 65535 time [] _ (omega arith) (omega arith) refl)
-call-reads-back (Name point text) h = ap said-call (next-reads 255 point (32 ∷ text) _ (omega arith) (omega arith) refl)
+    ap (said-as calls) (next-reads 65535 run _ _ (omega arith) (omega arith) refl ∙ next-reads 65535 time [] _ (omega arith) (omega arith) refl)
+call-reads-back (Name point text) h = ap (said-as calls) (next-reads 255 point (32 ∷ text) _ (omega arith) (omega arith) refl)
 call-reads-back Open h = absurd h
 call-reads-back Close h = absurd h
 call-reads-back Write h = absurd h

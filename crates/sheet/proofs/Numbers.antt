@@ -13,7 +13,7 @@ use Rattle.std.specs.Text.{asciiDigit}
 use Rattle.std.specs.shelf.Text.{allDigits}
 use Rattle.std.specs.declared.option.Option.{Option}
 use Rattle.std.specs.declared.option.Option.the-variants.{Some, None}
-use Rattle.sheet.specs.Words.{value, number}
+use Rattle.sheet.specs.Scan.{value, number}
 
 -- the number that n and the digits to come write, if it is at most `most`
 abbrev pub number-after : ℕ → ℕ → List ℕ → Option ℕ

@@ -10,7 +10,8 @@ use Rattle.std.proofs.shelf.Lists.{length-append, take-at, take-rest, drop-at, 
 use Rattle.std.proofs.shelf.Ways.{tells}
 use Rattle.std.specs.declared.option.Option.the-variants.{Some, None}
 use Rattle.track.specs.Map.Call.{Name}
-use Rattle.sheet.specs.Words.{trimmed, word, behind, name-text}
+use Rattle.sheet.specs.Scan.{trimmed, word, behind}
+use Rattle.sheet.specs.Words.{name-text}
 
 pub trimmed-space : (bs : List ℕ) → 0 < length bs → getD bs 0 0 ≡ 32 → trimmed (take (length bs - 1) (drop 1 bs)) ≡ trimmed bs
 trimmed-space [] h e = absurd (omega arith)

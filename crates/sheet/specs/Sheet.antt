@@ -5,7 +5,8 @@ use Prim.Native.Nat.{ℕ}
 use lib.Dec.{eqb}
 use Rattle.std.specs.Joined.{joined}
 use Rattle.track.specs.Map.{Call}
-use Rattle.sheet.specs.Words.{Said, nothing, unreadable, calls, says}
+use Rattle.track.specs.Map.Call.{Open, Route, Close}
+use Rattle.sheet.specs.Words.{Said, nothing, unreadable, calls, rules, asks, says}
 
 -- the same lines, the first with the byte b in front
 abbrev pub begun : ℕ → List (List ℕ) → List (List ℕ)
@@ -17,11 +18,13 @@ abbrev pub lines : List ℕ → List (List ℕ)
 lines [] = []
 lines (b ∷ bs) = cond (eqb b 10) ([] ∷ lines bs) (begun b (lines bs))
 
--- a line says one call, or none
+-- a line says one call, or none; for a question the rig is opened and closed again
 abbrev pub called : Said → List Call
 called nothing = []
 called unreadable = []
 called (calls c) = c ∷ []
+called (rules r) = []
+called (asks q) = Open ∷ Route ∷ Close ∷ []
 
 abbrev pub sheet-calls : List ℕ → List Call
 sheet-calls text = joined (λ line. called (says line)) (lines text)

@@ -1,8 +1,13 @@
 ghost use mathlib.Core.Path.{_≡_};
 ghost use Rattle.std.specs.declared.option.Option.the-variants.{Some};
-ghost use Rattle.sheet.specs.Wording.{reason, wording};
+ghost use Rattle.sheet.specs.Wording.{reason, rule-name, rule-refusal, no-route, wording};
+use crate::routes::Route;
+use crate::routes::RouteDisplay;
+use routing::refusal::SearchRefusal;
 use std::fmt;
+use tape::command::RuleName;
 use track::refusal::MapRefusal;
+use walks::refusal::RuleRefusal;
 
 /// What came of a line.
 #[derive(Clone, Copy, Drop)]
@@ -16,6 +21,11 @@ pub enum Outcome {
     Retimed,
     Named,
     Refused(MapRefusal),
+    /// The rule for later questions.
+    InForce(RuleName),
+    RuleRefused(RuleRefusal),
+    Routed(Route),
+    NotRouted(SearchRefusal),
 }
 
 pub impl fmt::Display for Outcome as OutcomeDisplay {
@@ -34,6 +44,13 @@ pub impl fmt::Display for Outcome as OutcomeDisplay {
                 let reason = reason_of(*refusal);
                 write!(f, "refused {number}: {reason}")
             }
+            Outcome::InForce(rule) => {
+                let name = name_of(*rule);
+                write!(f, "rule {name} in force")
+            }
+            Outcome::RuleRefused(refusal) => f.write_str(rule_refusal(*refusal)),
+            Outcome::Routed(route) => write!(f, "{route}"),
+            Outcome::NotRouted(refusal) => f.write_str(no_route(*refusal)),
         }
     }
 }
@@ -51,5 +68,40 @@ fn reason_of(refusal: MapRefusal) -> &'static str
         MapRefusal::NoRun => "no such run",
         MapRefusal::RunStruck => "run is struck",
         MapRefusal::BadName => "a name is eight bytes from 32 to 126",
+    }
+}
+
+/// The name of a rule, as a sheet has it.
+fn name_of(rule: RuleName) -> &'static str
+    ensures { λ r. ⌜ now r ≡ rule-name rule ⌝ }
+{
+    match rule {
+        RuleName::Flat => "flat",
+        RuleName::Point => "point",
+        RuleName::Pair => "pair",
+    }
+}
+
+/// A refused ruling, in words.
+fn rule_refusal(refusal: RuleRefusal) -> &'static str
+    ensures { λ r. ⌜ now r ≡ rule-refusal refusal ⌝ }
+{
+    match refusal {
+        RuleRefusal::NoPoint => "refused 1: point above 127",
+        RuleRefusal::NoWinch => "refused 3: winch above 15",
+        RuleRefusal::SameWinch => "refused 12: the same winch twice",
+    }
+}
+
+/// That there is no route, in words.
+fn no_route(refusal: SearchRefusal) -> &'static str
+    ensures { λ r. ⌜ now r ≡ no-route refusal ⌝ }
+{
+    match refusal {
+        SearchRefusal::NoPoint => "refused 1: point above 127",
+        SearchRefusal::TableShort => "refused 8: work table too short",
+        SearchRefusal::ListShort => "refused 9: list too short",
+        SearchRefusal::BoardShort => "refused 10: board too short",
+        SearchRefusal::NoWay => "no way",
     }
 }

@@ -1,12 +1,19 @@
 ghost use mathlib.Core.Path.{_≡_};
-ghost use Prim.Native.Nat.{ℕ, _+_, _≤_, _<_};
-ghost use lib.ListN.{length};
 ghost use Rattle.std.specs.Options.{mapped};
-ghost use Rattle.std.specs.shelf.Text.{sameBytes};
-ghost use Rattle.std.specs.Slices.{found};
-ghost use Rattle.sheet.specs.Words.{trimmed, word, behind, number, next, ended, lay-words, strike-words, retime-words, name-words, call-words, says};
+ghost use Rattle.sheet.specs.Scan.{word, behind, ended};
+ghost use Rattle.sheet.specs.Words.{lay-words, strike-words, retime-words, name-words, call-words, says-words, says};
 ghost use Rattle.sheet.specs.Plain.{Call-reads-back, Sheet-reads-back};
-ghost use Rattle.sheet.specs.Said.{went-on, call-of, said};
+ghost use Rattle.sheet.specs.Said.{call-of, said};
+use crate::questions::Question;
+use crate::questions::read_route;
+use crate::rulings::Ruling;
+use crate::rulings::read_rule;
+use crate::scan::is_over;
+use crate::scan::next_byte;
+use crate::scan::next_number;
+use crate::scan::same;
+use crate::scan::split_word;
+use crate::scan::trim;
 
 /// A call on a rig, as a line says it.
 #[derive(Clone, Copy)]
@@ -38,83 +45,15 @@ pub enum Line<'a> {
     Nothing,
     Unreadable,
     Call(Call<'a>),
-}
-
-/// The bytes from the first that is not a space.
-fn trim(bytes: &[u8]) -> &[u8]
-    ensures { λ r. ⌜ now r ≡ trimmed (now (bytes .entry)) ⌝ }
-{
-    let mut rest = bytes;
-    while let [b' ', more @ ..] = rest {
-        rest = more;
-    }
-    rest
-}
-
-/// How many bytes stand before the first space.
-fn word_len(bytes: &[u8]) -> usize
-    ensures { λ r. ⌜ r ≡ length (word (now (bytes .entry))) ⌝ }
-{
-    for (i, b) in bytes.iter().enumerate() {
-        if *b == b' ' {
-            return i;
-        }
-    }
-    bytes.len()
-}
-
-/// The number that a word of digits writes, if it is at most `most`.
-fn number_of(digits: &[u8], most: u16) -> Option<u16>
-    ensures value { λ r. ⌜ r ≡ number most (now (digits .entry)) ⌝ }
-    ensures bound { λ r. ⌜ found r (λ n. n ≤ most) ⌝ }
-{
-    if digits.is_empty() {
-        return None;
-    }
-    let mut n: u32 = 0;
-    for b in digits {
-        if !b.is_ascii_digit() {
-            return None;
-        }
-        n = 10 * n + u32::from(*b - b'0');
-        if n > u32::from(most) {
-            return None;
-        }
-    }
-    Some(n as u16)
-}
-
-/// The first word, up to a space, and the bytes behind it.
-fn split_word(bytes: &[u8]) -> (&[u8], &[u8])
-    ensures front { λ r. ⌜ now (r .0) ≡ word (now (bytes .entry)) ⌝ }
-    ensures back { λ r. ⌜ now (r .1) ≡ behind (now (bytes .entry)) ⌝ }
-{
-    bytes.split_at(word_len(bytes))
-}
-
-/// The next word as a number up to `most`, and the bytes behind it.
-fn next_number(bytes: &[u8], most: u16) -> Option<(u16, &[u8])>
-    ensures value { λ r. ⌜ went-on r ≡ next most (now (bytes .entry)) ⌝ }
-    ensures bound { λ r. ⌜ found r (λ p. p .0 ≤ most) ⌝ }
-{
-    let (digits, rest) = split_word(trim(bytes));
-    let n = number_of(digits, most)?;
-    Some((n, rest))
-}
-
-/// The next word as a number up to 255.
-fn next_byte(bytes: &[u8]) -> Option<(u8, &[u8])>
-    ensures { λ r. ⌜ went-on r ≡ next 255 (now (bytes .entry)) ⌝ }
-{
-    let (n, rest) = next_number(bytes, 255)?;
-    Some((n as u8, rest))
+    Rule(Ruling),
+    Route(Question),
 }
 
 /// The call, if no word is left.
-fn if_ended<'a>(bytes: &[u8], call: Call<'a>) -> Option<Call<'a>>
+fn call_if_ended<'a>(bytes: &[u8], call: Call<'a>) -> Option<Call<'a>>
     ensures { λ r. ⌜ mapped call-of r ≡ ended (now (bytes .entry)) (call-of (call .entry)) ⌝ }
 {
-    if trim(bytes).is_empty() {
+    if is_over(bytes) {
         Some(call)
     } else {
         None
@@ -130,7 +69,7 @@ fn read_lay(bytes: &[u8]) -> Option<Call<'_>>
     let (winch, rest) = next_byte(rest)?;
     let (time, rest) = next_number(rest, u16::MAX)?;
     let (strain, rest) = next_byte(rest)?;
-    if_ended(
+    call_if_ended(
         rest,
         Call::Lay {
             tail,
@@ -147,7 +86,7 @@ fn read_strike(bytes: &[u8]) -> Option<Call<'_>>
     ensures { λ r. ⌜ mapped call-of r ≡ strike-words (now (bytes .entry)) ⌝ }
 {
     let (run, rest) = next_number(bytes, u16::MAX)?;
-    if_ended(rest, Call::Strike { run })
+    call_if_ended(rest, Call::Strike { run })
 }
 
 /// `retime` takes a run and its new time.
@@ -156,7 +95,7 @@ fn read_retime(bytes: &[u8]) -> Option<Call<'_>>
 {
     let (run, rest) = next_number(bytes, u16::MAX)?;
     let (time, rest) = next_number(rest, u16::MAX)?;
-    if_ended(rest, Call::Retime { run, time })
+    call_if_ended(rest, Call::Retime { run, time })
 }
 
 /// `name` takes a point and, behind one space, a text.
@@ -168,13 +107,6 @@ fn read_name(bytes: &[u8]) -> Option<Call<'_>>
         [_, text @ ..] => Some(Call::Name { point, text }),
         [] => None,
     }
-}
-
-/// Whether two words are the same.
-fn same(a: &[u8], b: &[u8]) -> bool
-    ensures { λ r. ⌜ r ≡ sameBytes (now (a .entry)) (now (b .entry)) ⌝ }
-{
-    a == b
 }
 
 /// The call that the words say.
@@ -195,6 +127,29 @@ fn read_call(words: &[u8]) -> Option<Call<'_>>
     }
 }
 
+/// What a line that has words says.
+fn read_words(words: &[u8]) -> Line<'_>
+    ensures { λ r. ⌜ said r ≡ says-words (word (now (words .entry))) (behind (now (words .entry))) ⌝ }
+{
+    let (first, rest) = split_word(words);
+    if same(first, b"rule") {
+        match read_rule(rest) {
+            Some(ruling) => Line::Rule(ruling),
+            None => Line::Unreadable,
+        }
+    } else if same(first, b"route") {
+        match read_route(rest) {
+            Some(question) => Line::Route(question),
+            None => Line::Unreadable,
+        }
+    } else {
+        match read_call(words) {
+            Some(call) => Line::Call(call),
+            None => Line::Unreadable,
+        }
+    }
+}
+
 /// What a line says.
 pub fn read_line(line: &[u8]) -> Line<'_>
     ensures { λ r. ⌜ said r ≡ says (now (line .entry)) ⌝ }
@@ -202,10 +157,7 @@ pub fn read_line(line: &[u8]) -> Line<'_>
     let words = trim(line);
     match words {
         [] | [b'#', ..] => Line::Nothing,
-        _ => match read_call(words) {
-            Some(call) => Line::Call(call),
-            None => Line::Unreadable,
-        },
+        _ => read_words(words),
     }
 }
 

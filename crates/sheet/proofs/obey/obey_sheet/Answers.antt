@@ -4,10 +4,12 @@ use borrow.Author.Needs.{needs}
 use Rattle.std.proofs.shelf.Lists.{map-push, nil-from-length}
 use Rattle.std.proofs.shelf.Parts.{pushed}
 use Rattle.std.specs.Of.Vec.{vec-items}
-use Rattle.sheet.proofs.Sheets.{sheet-more, told-all, left-all, goes-on}
-use Rattle.sheet.specs.Replies.{map-in}
+use Rattle.sheet.proofs.Sheets.{sheet-none, sheet-more, told-all, left-all, calls-all, goes-on}
 use Rattle.sheet.specs.Said.{replied}
 use Rattle.sheet.proofs.obey.obey_sheet.Needs as need
+
+pub loop-rest-holds : need.loop-rest-holds
+loop-rest-holds c = sheet-none _ _ _ (search needs)
 
 pub loop-rest-again : need.loop-rest-again
 loop-rest-again c =
@@ -18,5 +20,4 @@ loop-rest-again c =
 pub returns : need.returns
 returns c =
     let none : c .loop-rest .rest .now ≡ [] = nil-from-length _ (search needs) in
-    let all = left-all _ _ _ _ _ (c .loop-rest .inv) none in
-    record { told = told-all _ _ _ _ _ (c .loop-rest .inv) none; after = all; law = goes-on _ _ _ all }
+    record { told = told-all _ _ _ _ _ (c .loop-rest .inv) none; after = left-all _ _ _ _ _ (c .loop-rest .inv) none; law = goes-on _ _ _ (calls-all _ _ _ _ _ (c .loop-rest .inv) none) }

@@ -1,7 +1,8 @@
 use mathlib.Core.Path.{ap, _∙_}
 use borrow.Author.Needs.{needs}
 use Rattle.sheet.proofs.Spaces.{name-text-behind}
-use Rattle.sheet.specs.Words.{_>>=_, name-text}
+use Rattle.sheet.specs.Scan.{_>>=_}
+use Rattle.sheet.specs.Words.{name-text}
 use Rattle.sheet.proofs.words.read_name.Needs as need
 
 pub returns-in-len1-up : need.returns-in-len1-up

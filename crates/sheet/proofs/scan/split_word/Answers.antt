@@ -1,7 +1,7 @@
 use mathlib.Core.Path.{_∙_}
 use native.Mathlib.Omega.{arith}
 use Rattle.sheet.proofs.Spaces.{word-within, word-front, word-back}
-use Rattle.sheet.proofs.words.split_word.Needs as need
+use Rattle.sheet.proofs.scan.split_word.Needs as need
 
 pub split-at-requires : need.split-at-requires
 split-at-requires c κs = omega (arith, word-within (c .args .bytes .now))

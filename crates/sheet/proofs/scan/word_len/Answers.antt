@@ -1,6 +1,6 @@
 use native.Mathlib.Omega.{arith}
 use Rattle.sheet.proofs.Spaces.{word-more, word-stops, word-ends}
-use Rattle.sheet.proofs.words.word_len.Needs as need
+use Rattle.sheet.proofs.scan.word_len.Needs as need
 
 pub returns-then-b-eq32 : need.returns-then-b-eq32
 returns-then-b-eq32 c = omega (arith, word-stops (c .args .bytes .now) (c .loop-i .i) (c .loop-i-test .taken) (c .if-b-eq32 .taken))

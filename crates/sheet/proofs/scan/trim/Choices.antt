@@ -1,7 +1,7 @@
 use mathlib.Core.Path.{_≡_}
 use lib.ListN.{length}
-use Rattle.sheet.specs.Words.{trimmed}
-use Rattle.sheet.proofs.words.trim.Given as given
+use Rattle.sheet.specs.Scan.{trimmed}
+use Rattle.sheet.proofs.scan.trim.Given as given
 
 abbrev pub Inv-loop-rest : given.InvT-loop-rest
 Inv-loop-rest l = trimmed (l .rest) ≡ trimmed (l .bytes)

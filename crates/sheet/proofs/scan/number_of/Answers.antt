@@ -1,7 +1,7 @@
 use native.Mathlib.Omega.{arith}
 use borrow.Author.Needs.{needs}
 use Rattle.sheet.proofs.Numbers.{read-none, read-all, read-stray, read-more, read-past}
-use Rattle.sheet.proofs.words.number_of.Needs as need
+use Rattle.sheet.proofs.scan.number_of.Needs as need
 
 pub loop-b-holds : need.loop-b-holds
 loop-b-holds c = search (needs, read-none)

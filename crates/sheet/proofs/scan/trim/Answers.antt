@@ -1,7 +1,7 @@
 use mathlib.Core.Path.{_∙_}
 use borrow.Author.Needs.{needs}
 use Rattle.sheet.proofs.Spaces.{trimmed-space, trimmed-empty, trimmed-word}
-use Rattle.sheet.proofs.words.trim.Needs as need
+use Rattle.sheet.proofs.scan.trim.Needs as need
 
 pub loop-rest-again : need.loop-rest-again
 loop-rest-again c = trimmed-space (c .loop-rest .rest .now) (search needs) (search needs) ∙ c .loop-rest .inv
