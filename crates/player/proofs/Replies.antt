@@ -45,10 +45,10 @@ pub route-replied : (a : Answer (Unit {0})) (d d′ : Desk) (kind : KindName) (h
     → Obeyed (unless-refused in-search a (asked kind home mark)) d was r d′ is
 route-replied (refused m) d d′ kind home mark l count cost n l′ was r is e same c q w = let z : _≡_ {A = ℕ} 0 1 = cc in absurd (omega arith)
 route-replied (gave x) d d′ kind home mark l count cost n l′ was r is f same c q w =
-    let runs : take n l′ ≡ f .0 = ap (take n) (f .4) ∙ take-at (f .0) (drop (length (f .0)) l) n (sym (c ∙ f .3)) in
-    ( Some (cost, f .0),
+    let runs : take n l′ ≡ f .0 = ap (take n) (f .4) ∙ take-at (f .0) (drop (length (f .0)) l) n (sym (c ∙ f .3)) in (
+      Some (cost, f .0),
       (f .1, f .2),
       q ∙ ap (λ (v : List ℕ). line-told (route-line kind home mark cost v) was) runs,
       same,
-      w ∙ ap (λ (v : List ℕ). line-left (route-line kind home mark cost v) was) runs
+      w ∙ ap (λ (v : List ℕ). line-left (route-line kind home mark cost v) was) runs,
     )

@@ -70,21 +70,21 @@ module _ (place : ℕ) (c : Said) (rest : List Item) (d d′ : Desk) (was is : L
   obeyed-on (done e) m q h =
       let a = h .0 in
       let z : m ≡ 0 = cc in
-      let r : length was - m ≡ length was = omega arith in
-      ( λ o k.
-          subst (λ (n : ℕ). May d (record { place = place; says = Ok c } ∷ rest) (length was) (behind (take n is) o)) (sym z)
-          (may-done d place c rest (length was) e o q (subst (λ (x : Desk). May x rest (length was) o) (h .1) (subst (λ (n : ℕ). May d′ rest n o) r k))),
-        ap (drop m) (h .2)
+      let r : length was - m ≡ length was = omega arith in (
+        λ o k.
+            subst (λ (n : ℕ). May d (record { place = place; says = Ok c } ∷ rest) (length was) (behind (take n is) o)) (sym z)
+            (may-done d place c rest (length was) e o q (subst (λ (x : Desk). May x rest (length was) o) (h .1) (subst (λ (n : ℕ). May d′ rest n o) r k))),
+        ap (drop m) (h .2),
       )
   obeyed-on (failed n layer) m q h = let a = h .0 in let z : _≡_ {A = ℕ} 0 1 = cc in absurd (omega arith)
   obeyed-on (asked kind home mark) m q h =
       let line = line-of kind home mark (h .0) in
-      let f = fitted line was is m (h .2) (h .4) in
-      ( λ o k.
-          subst (λ (t : List ℕ). May d (record { place = place; says = Ok c } ∷ rest) (length was) (behind t o)) (sym (f .front))
-          (may-ask d place c rest (length was) kind home mark (h .0) q (h .1) o (f .room)
-           (subst (λ (n : ℕ). May d rest (length was - n) o) (f .long) (subst (λ (x : Desk). May x rest (length was - m) o) (h .3) k))),
-        f .back
+      let f = fitted line was is m (h .2) (h .4) in (
+        λ o k.
+            subst (λ (t : List ℕ). May d (record { place = place; says = Ok c } ∷ rest) (length was) (behind t o)) (sym (f .front))
+            (may-ask d place c rest (length was) kind home mark (h .0) q (h .1) o (f .room)
+            (subst (λ (n : ℕ). May d rest (length was - n) o) (f .long) (subst (λ (x : Desk). May x rest (length was - m) o) (h .3) k))),
+        f .back,
       )
 
   -- one that was not
@@ -93,19 +93,19 @@ module _ (place : ℕ) (c : Said) (rest : List Item) (d d′ : Desk) (was is : L
   obeyed-off (done e) n layer q h = let a = h .0 in let z : _≡_ {A = ℕ} 0 1 = cc in absurd (omega arith)
   obeyed-off (failed n′ layer′) n layer q h =
       let a = h .0 in
-      let p : _≡_ {A = ℕ × Layer-name} (n′, layer′) (n, layer) = cc in
-      ( subst (λ (x : ℕ × Layer-name). May d (record { place = place; says = Ok c } ∷ rest) (length was) (faults d (x .0) place (x .1))) p (may-fail d place c rest (length was) n′ layer′ q),
+      let p : _≡_ {A = ℕ × Layer-name} (n′, layer′) (n, layer) = cc in (
+        subst (λ (x : ℕ × Layer-name). May d (record { place = place; says = Ok c } ∷ rest) (length was) (faults d (x .0) place (x .1))) p (may-fail d place c rest (length was) n′ layer′ q),
         h .1,
-        h .2
+        h .2,
       )
   obeyed-off (asked kind home mark) n layer q h =
       let line = line-of kind home mark (h .0) in
       let f = unfitted-by (leb (length line) (length was)) line was is n layer refl (h .2) (h .4) in
-      let p : _≡_ {A = ℕ × Layer-name} (18, in-listing) (n, layer) = let a = f .1 in let b = f .2 in cc in
-      ( subst (λ (x : ℕ × Layer-name). May d (record { place = place; says = Ok c } ∷ rest) (length was) (faults d (x .0) place (x .1))) p
-        (may-lack d place c rest (length was) kind home mark (h .0) q (h .1) (f .0)),
+      let p : _≡_ {A = ℕ × Layer-name} (18, in-listing) (n, layer) = let a = f .1 in let b = f .2 in cc in (
+        subst (λ (x : ℕ × Layer-name). May d (record { place = place; says = Ok c } ∷ rest) (length was) (faults d (x .0) place (x .1))) p
+            (may-lack d place c rest (length was) kind home mark (h .0) q (h .1) (f .0)),
         h .3,
-        f .3
+        f .3,
       )
 
 -- the command at the front of the tape's bytes
@@ -116,11 +116,11 @@ module _ (place : ℕ) (bs : List ℕ) (some : 0 < length bs) (d d′ : Desk) (w
   turned-on (Ok (c, n)) t q h p =
       let size : t .read ≡ n = h .1 in
       let g = obeyed-on place c (items (place + n) 0 (drop n bs)) d d′ was is (step d c) (t .written) refl (h .0) in
-      let e = items-read place bs c n some (omega arith) q in
-      ( λ o k.
-          subst (λ (l : List Item). May d l (length was) (behind (take (t .written) is) o)) (sym e)
-          (g .0 o (subst (λ (k : ℕ). May d′ (items (place + k) 0 (drop k bs)) (length was - t .written) o) size k)),
-        g .1
+      let e = items-read place bs c n some (omega arith) q in (
+        λ o k.
+            subst (λ (l : List Item). May d l (length was) (behind (take (t .written) is) o)) (sym e)
+            (g .0 o (subst (λ (k : ℕ). May d′ (items (place + k) 0 (drop k bs)) (length was - t .written) o) size k)),
+        g .1,
       )
   turned-on (Err e) t q h p = let a = h .0 in let z : _≡_ {A = ℕ} 0 1 = cc in absurd (omega arith)
 
@@ -133,11 +133,11 @@ module _ (place : ℕ) (bs : List ℕ) (some : 0 < length bs) (d d′ : Desk) (w
       (subst (λ (l : List Item). May d l (length was) (faults d (layer-number layer) place (layer-name layer))) (sym (e .1)) (g .0), g .1, g .2)
   turned-off (Err e) layer q h =
       let a = h .0 in
-      let r : _≡_ {A = ℕ × Layer-name} (cause-number e, in-tape) (layer-number layer, layer-name layer) = cc in
-      ( subst (λ (l : List Item). May d l (length was) (faults d (layer-number layer) place (layer-name layer))) (sym (items-unread place bs e some q))
-        (subst (λ (x : ℕ × Layer-name). May d (record { place = place; says = Err (cause-number e) } ∷ []) (length was) (faults d (x .0) place (x .1))) r (may-unread d place (cause-number e) [] (length was))),
+      let r : _≡_ {A = ℕ × Layer-name} (cause-number e, in-tape) (layer-number layer, layer-name layer) = cc in (
+        subst (λ (l : List Item). May d l (length was) (faults d (layer-number layer) place (layer-name layer))) (sym (items-unread place bs e some q))
+            (subst (λ (x : ℕ × Layer-name). May d (record { place = place; says = Err (cause-number e) } ∷ []) (length was) (faults d (x .0) place (x .1))) r (may-unread d place (cause-number e) [] (length was))),
         h .1,
-        h .2
+        h .2,
       )
 
 -- what is put behind the front of a list
@@ -221,8 +221,8 @@ module _ (tape was : List ℕ) (at len : ℕ) (d : Desk) (l bs o : List ℕ) (in
             let e = subst (λ (z : List ℕ). May d (items at 0 z) (length o) (behind (take (t .written) ys) x)) (hand .tail) b in
             let f = inv .whole (behind (take (t .written) ys) x) (subst (λ (z : ℕ). May d (items at 0 (drop at tape)) z (behind (take (t .written) ys) x)) room e) in
             let q : behind (take len l) (behind (take (t .written) ys) x) ≡ behind (take (len + t .written) (putMid len (length l - len) l ys)) x =
-                ap (λ (z : List ℕ). record { desk = x .desk; text = z; fault = x .fault }) (sym (append-assoc (take len l) (take (t .written) ys) (x .text)))
-                ∙ ap (λ (z : List ℕ). behind z x) (sym front) in
+            ap (λ (z : List ℕ). record { desk = x .desk; text = z; fault = x .fault }) (sym (append-assoc (take len l) (take (t .written) ys) (x .text)))
+            ∙ ap (λ (z : List ℕ). behind z x) (sym front) in
             subst (May new-desk (items 0 0 tape) (length was)) q f;
       }
 
@@ -231,10 +231,10 @@ module _ (tape was : List ℕ) (at len : ℕ) (d : Desk) (l bs o : List ℕ) (in
   halts layer h =
       let g = turned-off at bs some d d′ o ys (decode bs) layer refl h in
       let x = faults d (layer-number layer) at (layer-name layer) in
-      let a = subst (λ (z : List ℕ). May d (items at 0 z) (length o) x) (hand .tail) (g .0) in
-      ( inv .whole x (subst (λ (z : ℕ). May d (items at 0 (drop at tape)) z x) rest-room a),
+      let a = subst (λ (z : List ℕ). May d (items at 0 z) (length o) x) (hand .tail) (g .0) in (
+        inv .whole x (subst (λ (z : ℕ). May d (items at 0 (drop at tape)) z x) rest-room a),
         g .1,
-        lent-same l o ys len (inv .room) (hand .part) (g .2)
+        lent-same l o ys len (inv .room) (hand .part) (g .2),
       )
 
 pub ends-so : (tape was : List ℕ) (at len : ℕ) (d : Desk) (l : List ℕ) → Sofar tape was at len d l → length tape ≤ at → May new-desk (items 0 0 tape) (length was) (behind (take len l) (ends d))

@@ -118,8 +118,14 @@ impl Desk {
     {
         let mut list = [0u16; MOST_RUNS];
         match self.find(kind, home, mark, &mut list) {
-            Ok((count, cost)) => write_route(rest, kind, home, mark, cost, &list[0..count])
-                .ok_or(Layer::Listing(ListingCause::NoRoom)),
+            Ok((count, cost)) => write_route(
+                rest,
+                kind,
+                home,
+                mark,
+                cost,
+                &list[0..count],
+            ).ok_or(Layer::Listing(ListingCause::NoRoom)),
             Err(SearchRefusal::NoWay) => {
                 write_no_way(rest, kind, home, mark).ok_or(Layer::Listing(ListingCause::NoRoom))
             }

@@ -1,4 +1,6 @@
+pub mod copy;
 mod desk;
 pub mod fault;
 mod listing;
 pub mod play;
+pub mod theorems;

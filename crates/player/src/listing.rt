@@ -24,7 +24,11 @@ pub(crate) fn write_route(
     ensures after { λ _. ⌜ now (out .exit) ≡ line-left (route-line kind home mark cost (now (runs .entry))) (now (out .entry)) ⌝ }
 {
     let count = runs.len() as u64;
-    let size = heading_size(home, mark) + field_size(cost) + field_size(count) + runs_size(runs) + 1;
+    let size = heading_size(home, mark)
+        + field_size(cost)
+        + field_size(count)
+        + runs_size(runs)
+        + 1;
     if size > out.len() {
         return None;
     }

@@ -1,5 +1,5 @@
 -- Labels that pass a computed test bound every legal walk to the mark from below.
-use mathlib.Core.Path.{_≡_, refl, sym, ap, subst, _∙_}
+use mathlib.Core.Path.{_≡_, refl, sym, ap, _∙_}
 use mathlib.Core.Bool.{Bool, true, false, _&&_}
 use mathlib.Core.Logic.{inl, inr}
 use mathlib.Core.List.{List, [], _∷_}
@@ -12,12 +12,12 @@ use Rattle.std.specs.declared.option.Option.the-variants.{Some, None}
 use Rattle.std.proofs.shelf.Tests.{and-parts, and-from, eq-eqb, cases-lt, false≢true}
 use Rattle.std.proofs.shelf.Ways.{decides-below-and}
 use Rattle.std.proofs.shelf.Lists.{getD-past}
-use Rattle.track.specs.declared.run.Run.{Run}
 use Rattle.walks.specs.Kinds.{Kind, Lawful, Le}
-use Rattle.walks.specs.Walks.{run-at, Walk, onward}
-use Rattle.walks.specs.Cheapest.{Task, price, last, Leads-to, Ends-with}
-use Rattle.walks.specs.Labels.{Labelled, Started, Closed}
+use Rattle.walks.specs.Walks.{run-at, onward}
+use Rattle.walks.specs.Cheapest.{Task, price, Leads-to}
+use Rattle.walks.specs.Labels.{Started, Closed}
 use Rattle.walks.proofs.Bound.{laid}
+use Rattle.walks.proofs.Priced.{ends-with}
 use Rattle.walks.proofs.Ways.{task-bound}
 use Rattle.rehearsal.proofs.Tests.{walk?, decides-walk, legal?, decides-legal, leads?, decides-leads}
 
@@ -84,16 +84,6 @@ listed ls r l h = elim (cases-lt r (length ls)) [
   | inl lt ↦ lt
   | inr ge ↦ (let e = getD-past ls r None ge in let z : _≡_ {A = ℕ} 0 1 = cc in absurd (omega arith))
 ]
-
--- a walk with runs has a last one, at whose head it ends
-last-run : (m : List Run) (a q : ℕ) (w : List ℕ) (b : ℕ) → Walk m a (q ∷ w) b → (r : ℕ) × (run-at m r .head ≡ b) × (last (q ∷ w) ≡ Some r)
-last-run m a q [] b (un, tail, same) = (q, same, refl)
-last-run m a q (r ∷ w) b (un, tail, walk) = last-run m (run-at m q .head) r w b walk
-
-ends-with : {C : Type 0} (k : Task C) (mark q : ℕ) (w : List ℕ) → Leads-to k mark (q ∷ w) → (r : ℕ) × (run-at (k .runs) r .head ≡ mark) × Ends-with k r (q ∷ w)
-ends-with k mark q w (walk, legal) =
-    let n = last-run (k .runs) (k .home) q w mark walk in
-    (n .0, n .1, (n .2, (subst (λ (v : ℕ). Walk (k .runs) (k .home) (q ∷ w) v) (sym (n .1)) walk, legal)))
 
 module _ {C : Type 0} (k : Task C) (laws : Lawful (k .kind)) (mark : ℕ) (ls : List (Option C)) (ok : C → Bool) (test : bounds? k mark ls ok ≡ true) where
   started : Started k (label ls)

@@ -57,7 +57,10 @@ mod tests {
         check_eq(refusal(rig.name(128, b"short")), 1)?;
         check_eq(refusal(rig.name(0, b"seven b")), 13)?;
         check_eq(refusal(rig.name(0, b"nine byte")), 13)?;
-        check_eq(refusal(rig.name(0, &[32, 126, 32, 126, 32, 126, 32, 126])), 0)?;
+        check_eq(
+            refusal(rig.name(0, &[32, 126, 32, 126, 32, 126, 32, 126])),
+            0,
+        )?;
         check_eq(refusal(rig.name(0, &[31, 32, 32, 32, 32, 32, 32, 32])), 13)?;
         check_eq(refusal(rig.name(0, &[32, 32, 32, 32, 32, 32, 32, 127])), 13)
     }
@@ -89,7 +92,32 @@ mod tests {
         check_eq(refusal(rig.strike(1)), 0)?;
         check_eq(refusal(rig.name(3, b"UPSTAGE ")), 0)?;
         let tape = [
-            0x52, 0, 1, 0, 1, 0x1E, 40, 0x52, 0, 2, 1, 0, 20, 70, 0x58, 1, 0x4E, 3, b'U', b'P', b'S', b'T', b'A', b'G', b'E', b' ',
+            0x52,
+            0,
+            1,
+            0,
+            1,
+            0x1E,
+            40,
+            0x52,
+            0,
+            2,
+            1,
+            0,
+            20,
+            70,
+            0x58,
+            1,
+            0x4E,
+            3,
+            b'U',
+            b'P',
+            b'S',
+            b'T',
+            b'A',
+            b'G',
+            b'E',
+            b' ',
         ];
         let mut exact = [9u8; 26];
         check_eq(length(write(&rig, &mut exact)), 26)?;

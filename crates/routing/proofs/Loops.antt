@@ -1,14 +1,14 @@
 -- What one more turn adds to each loop of the search.
 use mathlib.Core.Path.{_≡_, refl, sym, ap, subst, _∙_}
-use mathlib.Core.Bool.{Bool, true, false, cond}
-use mathlib.Core.Logic.{_⊎_, inl, inr}
+use mathlib.Core.Bool.{Bool, true, false, not, cond}
+use mathlib.Core.Logic.{inl, inr}
 use mathlib.Core.List.{List, [], _∷_}
 use Prim.Native.Nat.{ℕ, zero, suc, _<_, _≤_, _+_}
 use native.Mathlib.Omega.{arith}
 use lib.ListN.{length, getD, set, replicate}
 use Rattle.std.specs.declared.option.Option.{Option}
 use Rattle.std.specs.declared.option.Option.the-variants.{Some}
-use Rattle.std.proofs.shelf.Tests.{cases-lt, cases-bool, both-ways}
+use Rattle.std.proofs.shelf.Tests.{cases-lt, cases-bool, both-ways, not-true, not-false}
 use Rattle.std.proofs.shelf.Lists.{getD-past, getD-default, getD-replicate, length-replicate, getD-set-same, getD-set-other}
 use Rattle.track.specs.declared.run.Run.{Run}
 use Rattle.walks.specs.Kinds.{Kind, Lawful, Le}
@@ -20,7 +20,7 @@ use Rattle.walks.proofs.Ways.{net, net-laws, none-some}
 use Rattle.routing.specs.declared.place.Place.{Place}
 use Rattle.routing.specs.declared.place.Place.the-variants.{Absent}
 use Rattle.routing.specs.Tables.{place}
-use Rattle.routing.specs.Steps.{cost-in, label, taken-at, begun, improved, relaxed, Relaxed, None-waits, Lowest}
+use Rattle.routing.specs.Steps.{cost-in, label, taken-at, begun, first, improved, relaxed, Relaxed, None-waits, Lowest}
 use Rattle.routing.proofs.Turns.{Good, good-after}
 
 -- what holds of each number below i, and of i
@@ -72,6 +72,10 @@ pub record Best {C : Type 0} (at-most : C → C → Bool) (t : List (Place C)) (
   pub nothing : found ≡ false → None-waits t d n
   pub something : found ≡ true → Lowest at-most t d n u c
 
+not-first : (found b : Bool) → cond found (not b) true ≡ false → (found ≡ true) × (b ≡ true)
+not-first true b h = (refl, not-false b h)
+not-first false b h = absurd (both-ways true h refl)
+
 pub best-is : {C : Type 0} {at-most : C → C → Bool} {t : List (Place C)} {d : List Bool} {n : ℕ} {found found′ : Bool} {u u′ : ℕ} {c c′ : C} → found′ ≡ found → u′ ≡ u → c′ ≡ c → Best at-most t d n found u c → Best at-most t d n found′ u′ c′
 best-is {C} {at-most} {t} {d} {n} {found} {found′} {u} {u′} {c} {c′} e f g best =
     subst (λ (x : Bool). Best at-most t d n x u′ c′) (sym e) (subst (λ (x : ℕ). Best at-most t d n found x c′) (sym f) (subst (λ (x : C). Best at-most t d n found u x) (sym g) best))
@@ -93,24 +97,34 @@ module _ {C : Type 0} {k : Kind C} (laws : Lawful k) {t : List (Place C)} {d : L
   }
 
   -- n waits with a label that is not below the best
-  pub best-keep : (found : Bool) (u : ℕ) (c l : C) → found ≡ true → label t n ≡ Some l → Le k c l → Best (k .at-most) t d n found u c → Best (k .at-most) t d (n + 1) found u c
-  best-keep found u c l was at low best = record {
-    nothing = λ e. absurd (both-ways found e was);
-    something = λ e. lowest-more u c (λ x f is. (let same : l ≡ x = cc in subst (λ (z : C). Le k c z) same low)) (best .something e);
-  }
+  pub best-keep : (found : Bool) (u : ℕ) (c l : C) → first (k .at-most) l found c ≡ false → label t n ≡ Some l → Best (k .at-most) t d n found u c → Best (k .at-most) t d (n + 1) found u c
+  best-keep found u c l after at best =
+      let m = not-first found (k .at-most c l) after in
+      record {
+        nothing = λ e. absurd (both-ways found e (m .0));
+        something = λ e. lowest-more u c (λ x f is. (let same : l ≡ x = cc in subst (λ (z : C). Le k c z) same (m .1))) (best .something e);
+      }
 
   -- n waits with a label that is below the best, or is the first
-  pub best-take : (found : Bool) (u : ℕ) (c l : C) → (found ≡ false) ⊎ (k .at-most c l ≡ false) → taken-at d n ≡ false → label t n ≡ Some l → Best (k .at-most) t d n found u c → Best (k .at-most) t d (n + 1) true n l
-  best-take found u c l why waits at best = record { nothing = λ e. absurd (both-ways true e refl); something = λ e. lowest-more n l (λ x f is. (let same : l ≡ x = cc in subst (λ (z : C). Le k l z) same (le-refl l))) (record { waits = waits; labelled = at; lowest = low }) }
+  pub best-take : (found : Bool) (u : ℕ) (c l : C) → first (k .at-most) l found c ≡ true → taken-at d n ≡ false → label t n ≡ Some l → Best (k .at-most) t d n found u c → Best (k .at-most) t d (n + 1) true n l
+  best-take found u c l before waits at best = record {
+    nothing = λ e. absurd (both-ways true e refl);
+    something = λ e. lowest-more n l (λ x f is. (let same : l ≡ x = cc in subst (λ (z : C). Le k l z) same le-refl)) (record { waits = waits; labelled = at; lowest = low });
+  }
     where
-      le-refl : (a : C) → Le k a a
-      le-refl a = elim (laws .total a a) [ inl h ↦ h | inr h ↦ h ]
+      le-refl : Le k l l
+      le-refl = elim (laws .total l l) [ inl h ↦ h | inr h ↦ h ]
+
+      under : found ≡ true → Le k l c
+      under e = elim (laws .total c l) [
+        | inl le ↦ absurd (both-ways (k .at-most c l) (not-true (k .at-most c l) (sym (ap (λ (b : Bool). cond b (not (k .at-most c l)) true) e) ∙ before)) le)
+        | inr le ↦ le
+      ]
 
       low : (r : ℕ) (x : C) → r < n → taken-at d r ≡ false → label t r ≡ Some x → Le k l x
       low r x h f is = elim (cases-bool found) [
-        | inl yes′ ↦ (let under : Le k l c = elim (laws .total c l) [ inl le ↦ absurd (elim why [ inl none ↦ both-ways found none yes′ | inr above ↦ both-ways (k .at-most c l) above le ]) | inr le ↦ le ] in
-            laws .trans l c x under (best .something yes′ .lowest r x h f is))
-        | inr none ↦ absurd (best .nothing none r x h f is)
+        | inl e ↦ laws .trans l c x (under e) (best .something e .lowest r x h f is)
+        | inr e ↦ absurd (best .nothing e r x h f is)
       ]
 
 -- how many runs are not taken

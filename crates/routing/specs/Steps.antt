@@ -40,6 +40,10 @@ abbrev pub lower : {C : Type 0} → (C → C → Bool) → C → Place C → Boo
 lower at-most c Absent = true
 lower at-most c (Reached l b) = not (at-most l c)
 
+-- whether a label is below the lowest so far, or is the first that was found
+abbrev pub first : {C : Type 0} → (C → C → Bool) → (label : C) → (found : Bool) → (lowest : C) → Bool
+first at-most l found c = cond found (not (at-most c l)) true
+
 -- a place once the run u offers this cost, if it does
 abbrev pub improved : {C : Type 0} → (C → C → Bool) → (u : ℕ) → Option C → Place C → Place C
 improved at-most u None p = p

@@ -10,7 +10,7 @@ ghost use Rattle.track.specs.Calls.{map-of, map-after, Left-by};
 ghost use Rattle.walks.specs.Cheapest.{task};
 ghost use Rattle.routing.specs.Refusals.{number};
 ghost use Rattle.routing.specs.Tables.{Table-holds};
-ghost use Rattle.routing.specs.Route.{Routed, Route-done};
+ghost use Rattle.routing.specs.Route.{route-checks, Routed, Route-done};
 use crate::board::place_of;
 use crate::follow::follow_back;
 use crate::place::Place;
@@ -39,18 +39,32 @@ pub fn route<K: CostKind, R: HandoverRule>(
     ensures done { λ r. ⌜ Route-done (K·CostKind .meaning (now (kind .entry))) (R·HandoverRule .table (now (rule .entry))) (map-of (now (rig .entry) .layout)) home mark (now (table .entry)) (now (list .entry)) (told number r) (now (table .exit)) (now (list .exit)) ⌝ }
     ensures law { λ r. ⌜ ((calls : List Call) → Left-by calls (map-of (now (rig .entry) .layout)) → Route-done (K·CostKind .meaning (now (kind .entry))) (R·HandoverRule .table (now (rule .entry))) (map-after calls) home mark (now (table .entry)) (now (list .entry)) (told number r) (now (table .exit)) (now (list .exit)) × Left-by (calls ++ Route ∷ []) (map-of (now (rig .entry) .layout))) ⌝ }
 {
+    check_route(rig, home, mark, table.len(), list.len())?;
+    let runs = rig.runs();
+    let laid = runs.len();
+    route_runs(kind, rule, runs, home, mark, &mut table[0..laid], list)
+}
+
+/// The first refusal that applies before any search, with so many places in the table and in the list.
+fn check_route(
+    rig: &Show,
+    home: u8,
+    mark: u8,
+    places: usize,
+    room: usize,
+) -> Result<(), SearchRefusal>
+    ensures { λ r. ⌜ told number r ≡ route-checks (map-of (now (rig .entry) .layout)) home mark places room ⌝ }
+{
     if home as usize >= POINTS || mark as usize >= POINTS {
         return Err(SearchRefusal::NoPoint);
     }
-    let runs = rig.runs();
-    let laid = runs.len();
-    if table.len() < laid {
+    if places < rig.runs().len() {
         return Err(SearchRefusal::TableShort);
     }
-    if list.len() < laid {
+    if room < rig.runs().len() {
         return Err(SearchRefusal::ListShort);
     }
-    route_runs(kind, rule, runs, home, mark, &mut table[0..laid], list)
+    Ok(())
 }
 
 /// The same on a table of just the runs and a list that has room for them all.

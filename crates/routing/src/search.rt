@@ -2,15 +2,18 @@ ghost use mathlib.Core.Path.{_≡_};
 ghost use Prim.Native.Nat.{_<_, _≤_};
 ghost use lib.ListN.{length};
 ghost use Rattle.std.specs.Options.{Cases};
+ghost use Rattle.track.specs.Sizes.{most-runs};
 ghost use Rattle.walks.specs.Cheapest.{task};
-ghost use Rattle.walks.specs.Moves.{begin-cost, follow-cost};
+ghost use Rattle.walks.specs.Moves.{begin-cost};
 ghost use Rattle.routing.specs.Tables.{Table-holds};
-ghost use Rattle.routing.specs.Steps.{begun, Begun, lower, improved, Relaxed, None-waits, Lowest};
+ghost use Rattle.routing.specs.Steps.{begun, Begun, lower, first, improved, Relaxed, None-waits, Lowest};
 use crate::place::Place;
 use track::run::MOST_RUNS;
 use track::run::Run;
 use walks::kind::CostKind;
 use walks::rule::HandoverRule;
+use walks::walk::begin as begin_cost;
+use walks::walk::follow;
 
 /// A run that waits to be taken, and its label.
 #[derive(Clone, Copy, Drop)]
@@ -23,35 +26,9 @@ struct Waiting<C> {
 fn begin<K: CostKind>(kind: &K, home: u8, run: Run) -> Place<K::Cost>
     ensures { λ r. ⌜ r ≡ begun (begin-cost (K·CostKind .meaning (now (kind .entry))) home run) ⌝ }
 {
-    if !run.struck && run.tail == home {
-        Place::Reached {
-            cost: kind.along(kind.start(), run.time, run.strain),
-            run: None,
-        }
-    } else {
-        Place::Absent
-    }
-}
-
-/// What the cost of a walk that ends with `last` becomes once `next` follows, if it may.
-fn follow<K: CostKind, R: HandoverRule>(
-    kind: &K,
-    rule: &R,
-    last: Run,
-    next: Run,
-    cost: K::Cost,
-) -> Option<K::Cost>
-    ensures { λ r. ⌜ r ≡ follow-cost (K·CostKind .meaning (now (kind .entry))) (R·HandoverRule .table (now (rule .entry))) last next cost ⌝ }
-{
-    if next.struck || next.tail != last.head {
-        return None;
-    }
-    match rule.ask(last.head, last.winch, next.winch) {
-        Some(penalty) => {
-            let crossed = kind.over(cost, penalty, last.winch != next.winch);
-            Some(kind.along(crossed, next.time, next.strain))
-        }
-        None => None,
+    match begin_cost(kind, home, run) {
+        Some(cost) => Place::Reached { cost, run: None },
+        None => Place::Absent,
     }
 }
 
@@ -69,7 +46,12 @@ fn is_lower<K: CostKind>(kind: &K, cost: K::Cost, place: Place<K::Cost>) -> bool
 }
 
 /// Writes what the run `run` offers into a place, where it offers something lower.
-pub(crate) fn improve<K: CostKind>(kind: &K, run: u16, offer: Option<K::Cost>, place: &mut Place<K::Cost>)
+pub(crate) fn improve<K: CostKind>(
+    kind: &K,
+    run: u16,
+    offer: Option<K::Cost>,
+    place: &mut Place<K::Cost>,
+)
     ensures { λ _. ⌜ now (place .exit) ≡ improved (K·CostKind .meaning (now (kind .entry)) .at-most) run offer (now (place .entry)) ⌝ }
 {
     if let Some(cost) = offer {
@@ -87,9 +69,16 @@ fn begin_all<K: CostKind>(kind: &K, home: u8, runs: &[Run], table: &mut [Place<K
     requires { ⌜ length (now table) ≡ length (now runs) ⌝ }
     ensures { λ _. ⌜ Begun (K·CostKind .meaning (now (kind .entry))) home (now (runs .entry)) (now (table .exit)) ⌝ }
 {
-    for i in 0..runs.len() {
-        table[i] = begin(kind, home, runs[i]);
+    for (i, run) in runs.iter().enumerate() {
+        table[i] = begin(kind, home, *run);
     }
+}
+
+/// Whether `label` is below the lowest label so far, or is the first that was found.
+fn goes_first<K: CostKind>(kind: &K, label: K::Cost, found: bool, lowest: K::Cost) -> bool
+    ensures { λ r. ⌜ r ≡ first (K·CostKind .meaning (now (kind .entry)) .at-most) label found lowest ⌝ }
+{
+    !found || !kind.at_most(lowest, label)
 }
 
 /// A waiting run with a lowest label, if any labelled run waits.
@@ -111,7 +100,7 @@ fn next_waiting<K: CostKind>(
                 cost: label,
                 run: _,
             } = place {
-                if !found || !kind.at_most(cost, label) {
+                if goes_first(kind, label, found, cost) {
                     found = true;
                     run = i;
                     cost = label;
@@ -126,8 +115,9 @@ fn next_waiting<K: CostKind>(
     }
 }
 
-/// Offers each waiting run what follows from the run just taken, and improves a place only where the offer is lower:
-/// a run before that is replaced at an equal cost can close a ring.
+/// Offers each waiting run what follows from the run just taken.
+///
+/// A place is written only where the offer is lower: a run before that is replaced at an equal cost could close a ring.
 fn relax<K: CostKind, R: HandoverRule>(
     kind: &K,
     rule: &R,
@@ -136,15 +126,15 @@ fn relax<K: CostKind, R: HandoverRule>(
     taken: &[bool],
     from: Waiting<K::Cost>,
 )
-    requires { ⌜ length (now table) ≡ length (now runs) ⌝ ∗ ⌜ length (now runs) ≤ length (now taken) ⌝ ∗ ⌜ length (now runs) ≤ 256 ⌝ ∗ ⌜ from .run < length (now runs) ⌝ }
+    requires { ⌜ length (now table) ≡ length (now runs) ⌝ ∗ ⌜ length (now runs) ≤ length (now taken) ⌝ ∗ ⌜ length (now runs) ≤ most-runs ⌝ ∗ ⌜ from .run < length (now runs) ⌝ }
     ensures { λ _. ⌜ Relaxed (K·CostKind .meaning (now (kind .entry))) (R·HandoverRule .table (now (rule .entry))) (now (runs .entry)) (now (taken .entry)) (from .run) (from .cost) (now (table .entry)) (now (table .exit)) ⌝ }
 {
     let Waiting { run, cost } = from;
     let last = runs[run];
     let before = run as u16;
     for i in 0..runs.len() {
+        let offer = follow(kind, rule, last, runs[i], cost);
         if !taken[i] {
-            let offer = follow(kind, rule, last, runs[i], cost);
             improve(kind, before, offer, &mut table[i]);
         }
     }
@@ -161,7 +151,7 @@ pub(crate) fn search<K: CostKind, R: HandoverRule>(
     home: u8,
     table: &mut [Place<K::Cost>],
 )
-    requires { ⌜ length (now table) ≡ length (now runs) ⌝ ∗ ⌜ length (now runs) ≤ 256 ⌝ }
+    requires { ⌜ length (now table) ≡ length (now runs) ⌝ ∗ ⌜ length (now runs) ≤ most-runs ⌝ }
     ensures { λ _. ⌜ Table-holds (task (K·CostKind .meaning (now (kind .entry))) (R·HandoverRule .table (now (rule .entry))) (now (runs .entry)) home) (now (table .exit)) ⌝ }
 {
     let mut taken = [false; MOST_RUNS];

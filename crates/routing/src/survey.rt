@@ -10,7 +10,7 @@ ghost use Rattle.track.specs.Calls.{map-of, map-after, Left-by};
 ghost use Rattle.walks.specs.Cheapest.{task};
 ghost use Rattle.routing.specs.Refusals.{number};
 ghost use Rattle.routing.specs.Tables.{Table-holds, Board-holds};
-ghost use Rattle.routing.specs.Survey.{Survey-done};
+ghost use Rattle.routing.specs.Survey.{survey-answer, Survey-done};
 ghost use Rattle.routing.specs.Offers.{Heads-below};
 use crate::board::fill_board;
 use crate::place::Place;
@@ -37,18 +37,33 @@ pub fn survey<K: CostKind, R: HandoverRule>(
     ensures done { λ r. ⌜ Survey-done (K·CostKind .meaning (now (kind .entry))) (R·HandoverRule .table (now (rule .entry))) (map-of (now (rig .entry) .layout)) home (now (table .entry)) (now (board .entry)) (told number r) (now (table .exit)) (now (board .exit)) ⌝ }
     ensures law { λ r. ⌜ ((calls : List Call) → Left-by calls (map-of (now (rig .entry) .layout)) → Survey-done (K·CostKind .meaning (now (kind .entry))) (R·HandoverRule .table (now (rule .entry))) (map-after calls) home (now (table .entry)) (now (board .entry)) (told number r) (now (table .exit)) (now (board .exit)) × Left-by (calls ++ Survey ∷ []) (map-of (now (rig .entry) .layout))) ⌝ }
 {
+    check_survey(rig, home, table.len(), board.len())?;
+    let runs = rig.runs();
+    let laid = runs.len();
+    survey_runs(
+        kind,
+        rule,
+        runs,
+        home,
+        &mut table[0..laid],
+        &mut board[0..POINTS],
+    );
+    Ok(())
+}
+
+/// The first refusal that applies, with so many places in the table and on the board.
+fn check_survey(rig: &Show, home: u8, places: usize, room: usize) -> Result<(), SearchRefusal>
+    ensures { λ r. ⌜ told number r ≡ survey-answer (map-of (now (rig .entry) .layout)) home places room ⌝ }
+{
     if home as usize >= POINTS {
         return Err(SearchRefusal::NoPoint);
     }
-    let runs = rig.runs();
-    let laid = runs.len();
-    if table.len() < laid {
+    if places < rig.runs().len() {
         return Err(SearchRefusal::TableShort);
     }
-    if board.len() < POINTS {
+    if room < POINTS {
         return Err(SearchRefusal::BoardShort);
     }
-    survey_runs(kind, rule, runs, home, &mut table[0..laid], &mut board[0..POINTS]);
     Ok(())
 }
 

@@ -29,15 +29,28 @@ pub enum Command<'a> {
         strain: u8,
     },
     /// `X`: strikes a run.
-    Strike { run: u8 },
+    Strike {
+        run: u8,
+    },
     /// `T`: alters a run's time.
-    Retime { run: u8, time: u16 },
+    Retime {
+        run: u8,
+        time: u16,
+    },
     /// `N`: names a point. The eight bytes of the name are a part of the tape.
-    Name { point: u8, text: &'a [u8] },
+    Name {
+        point: u8,
+        text: &'a [u8],
+    },
     /// `F`: sets the flat rule.
-    SetFlat { setting: u16 },
+    SetFlat {
+        setting: u16,
+    },
     /// `P`: sets the point rule at one point.
-    SetPoint { point: u8, setting: u16 },
+    SetPoint {
+        point: u8,
+        setting: u16,
+    },
     /// `M`: sets the pair rule at one pair of winches.
     SetPair {
         arriving: u8,
@@ -45,9 +58,15 @@ pub enum Command<'a> {
         setting: u16,
     },
     /// `W`: the rule for later questions.
-    UseRule { rule: RuleName },
+    UseRule {
+        rule: RuleName,
+    },
     /// `Q`: asks a route.
-    Ask { kind: KindName, home: u8, mark: u8 },
+    Ask {
+        kind: KindName,
+        home: u8,
+        mark: u8,
+    },
 }
 
 /// The kind that a letter names: `t`, `s` or `h`.

@@ -54,6 +54,7 @@ same-fields a b et eh ew ei es ex =
 pub run-decided : (a b : Run) (r : Bool) → runs.ghosts .equals a b r → Decides r (a ≡ b)
 run-decided a b true (t, (h, (w, (i, (s, x))))) =
     (λ _. same-fields a b (t .0 refl) (h .0 refl) (w .0 refl) (i .0 refl) (s .0 refl) (x .0 refl), λ _. refl)
-run-decided a b false h =
-    (λ z. absurd (both-ways false refl z),
-     λ e. absurd (h (never (ap (λ (r : Run). r .tail) e)) (never (ap (λ (r : Run). r .head) e)) (never (ap (λ (r : Run). r .winch) e)) (never (ap (λ (r : Run). r .time) e)) (never (ap (λ (r : Run). r .strain) e)) (never (ap (λ (r : Run). r .struck) e))))
+run-decided a b false h = (
+  λ z. absurd (both-ways false refl z),
+  λ e. absurd (h (never (ap (λ (r : Run). r .tail) e)) (never (ap (λ (r : Run). r .head) e)) (never (ap (λ (r : Run). r .winch) e)) (never (ap (λ (r : Run). r .time) e)) (never (ap (λ (r : Run). r .strain) e)) (never (ap (λ (r : Run). r .struck) e))),
+)

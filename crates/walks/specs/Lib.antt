@@ -8,3 +8,4 @@ pub mod Costs
 pub mod Refusals
 pub mod Settings
 pub mod Sums
+pub mod Prices

@@ -10,3 +10,4 @@ pub mod setting;
 pub mod strain;
 pub mod sums;
 pub mod time;
+pub mod walk;

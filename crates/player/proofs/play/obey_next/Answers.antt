@@ -17,9 +17,9 @@ returns c =
           subst
           (λ (x : Read). Turned x d (c .args .rest .now) (Ok (record { read = c .in-Continue-command .read; written = c .in-Continue-written .written })) (desk-of (c .obey .last .self)) (c .obey .last .rest))
           (read .value) (obeyed, refl);
-      within =
-          ( read .within .0,
-            read .within .1,
-            written-within (step d (said (c .in-Continue-command .command))) d (c .args .rest .now) (c .in-Continue-written .written) (desk-of (c .obey .last .self)) (c .obey .last .rest) obeyed
-          );
+      within = (
+        read .within .0,
+        read .within .1,
+        written-within (step d (said (c .in-Continue-command .command))) d (c .args .rest .now) (c .in-Continue-written .written) (desk-of (c .obey .last .self)) (c .obey .last .rest) obeyed,
+      );
     }

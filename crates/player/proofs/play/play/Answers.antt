@@ -39,12 +39,12 @@ returns-in-Err c =
     let d = desk-of (c .loop-at .desk) in
     let layer = c .in-Err .layer in
     let h =
-        halts tape was (c .loop-at .at) (c .loop-at .len) d l _ _ (c .loop-at .inv)
-        (handed tape l (c .loop-at .at) (c .loop-at .len) (c .loop-at-test .taken))
-        (desk-of (c .obey-next .last .desk)) (c .obey-next .last .rest) layer (c .in-Err .ensures tt .turned) in
+    halts tape was (c .loop-at .at) (c .loop-at .len) d l _ _ (c .loop-at .inv)
+    (handed tape l (c .loop-at .at) (c .loop-at .len) (c .loop-at-test .taken))
+    (desk-of (c .obey-next .last .desk)) (c .obey-next .last .rest) layer (c .in-Err .ensures tt .turned) in
     subst (λ (z : List ℕ). Play-done tape was (map-of (c .into-rig .result .layout)) (c .loop-at .len) (Some (record { number = layer-number layer; place = c .loop-at .at; layer = layer-name layer })) z) (sym (h .2))
     (promised tape was (c .loop-at .len) l (faults d (layer-number layer) (c .loop-at .at) (layer-name layer)) _ _ (c .loop-at .inv .room) (c .loop-at .inv .back) refl
-     (c .into-rig .ensures ∙ ap (λ (x : Desk). x .map) (h .1)) refl (h .0))
+    (c .into-rig .ensures ∙ ap (λ (x : Desk). x .map) (h .1)) refl (h .0))
 
 pub returns : need.returns
 returns c =

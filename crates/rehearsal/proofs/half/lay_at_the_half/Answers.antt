@@ -12,6 +12,6 @@ three calls a b c = simp append-assoc
 pub returns : need.returns
 returns c = λ calls h.
     (let closed = c .close-rig .ensures .law calls h in
-     let laid = c .lay .ensures .law (calls ++ Close ∷ []) closed in
-     let opened = c .open .ensures .law _ laid in
-     subst (λ (cs : List Call). Left-by cs (map-of (c .open .result .layout))) (three calls Close _ Open) opened)
+    let laid = c .lay .ensures .law (calls ++ Close ∷ []) closed in
+    let opened = c .open .ensures .law _ laid in
+    subst (λ (cs : List Call). Left-by cs (map-of (c .open .result .layout))) (three calls Close _ Open) opened)

@@ -15,7 +15,7 @@ follow-back-requires g c κs =
     let k = task (g .K·CostKind .meaning (c .args .kind .now)) t (c .args .runs .now) (c .args .home) in
     let table = c .search .last .table in
     let way = walk-by k table (c .args .mark) (c .in-Reached .cost) (c .in-Some .end) (c .search .ensures) (omega arith)
-        (subst (λ (b : Option ℕ). Board-place k table (c .args .mark) (Reached (c .in-Reached .cost) b)) (c .in-Some .is) (c .in-Reached .ensures tt t (c .search .ensures))) in
+    (subst (λ (b : Option ℕ). Board-place k table (c .args .mark) (Reached (c .in-Reached .cost) b)) (c .in-Some .is) (c .in-Reached .ensures tt t (c .search .ensures))) in
     ((way .0, way .2), omega arith)
 
 pub returns-in-None : need.returns-in-None
@@ -35,6 +35,6 @@ returns-in-Some g c =
     let k = task (g .K·CostKind .meaning (c .args .kind .now)) t (c .args .runs .now) (c .args .home) in
     let table = c .search .last .table in
     let way = walk-by k table (c .args .mark) (c .in-Reached .cost) (c .in-Some .end) (c .search .ensures) (omega arith)
-        (subst (λ (b : Option ℕ). Board-place k table (c .args .mark) (Reached (c .in-Reached .cost) b)) (c .in-Some .is) (c .in-Reached .ensures tt t (c .search .ensures))) in
+    (subst (λ (b : Option ℕ). Board-place k table (c .args .mark) (Reached (c .in-Reached .cost) b)) (c .in-Some .is) (c .in-Reached .ensures tt t (c .search .ensures))) in
     let back = c .follow-back .ensures (way .0) (way .2) in
     record { runs-hold = c .search .ensures; routed = (way .0, way .1, way .2 .once, back .0, back .1) }

@@ -29,7 +29,7 @@ loop-i-again g c =
     elim (c .if-not-taken-i .came) [
       | then-not-taken-i w ↦ step
           (ap (λ x. place x i) (w .table-is) ∙ getD-set-same t i _ Absent within ∙ w .improve .ensures
-          ∙ relaxed-waits k rule runs d u cost old i (w .follow-offer .result) _ _ _ (w .if-not-taken-i .taken) (omega arith) (c .loop-i-test .taken) (w .follow-offer .ensures) (getD-default t i _ Absent within ∙ c .loop-i .inv .1 i (omega arith)))
+          ∙ relaxed-waits k rule runs d u cost old i (c .follow-offer .result) _ _ _ (w .if-not-taken-i .taken) (omega arith) (c .loop-i-test .taken) (c .follow-offer .ensures) (getD-default t i _ Absent within ∙ c .loop-i .inv .1 i (omega arith)))
           (λ r ne. ap (λ x. place x r) (w .table-is) ∙ getD-set-other t i r _ Absent ne)
           (c .loop-i .inv)
       | else-not-taken-i w ↦ step

@@ -2,6 +2,7 @@ use mathlib.Core.Path.{_≡_, refl, _∙_}
 use native.Mathlib.Omega.{arith}
 use lib.ListN.{length}
 use Rattle.std.proofs.shelf.Lists.{length-set}
+use Rattle.track.specs.Sizes.{most-runs}
 use Rattle.walks.specs.Cheapest.{task}
 use Rattle.walks.proofs.Ways.{net, net-laws}
 use Rattle.routing.specs.Steps.{taken-at}
@@ -12,7 +13,7 @@ use Rattle.routing.proofs.search.search.Needs as need
 pub loop-next-holds : need.loop-next-holds
 loop-next-holds g c =
     let k = task (g .K·CostKind .meaning (c .args .kind .now)) (g .R·HandoverRule .table (c .args .rule .now)) (c .args .runs .now) (c .args .home) in
-    (refl, good-begun (net k) (net-laws k (g .K·CostKind·met .lawful (c .args .kind .now))) (c .begin-all .last .table) _ (none-taken 256) (c .begin-all .ensures))
+    (refl, good-begun (net k) (net-laws k (g .K·CostKind·met .lawful (c .args .kind .now))) (c .begin-all .last .table) _ (none-taken most-runs) (c .begin-all .ensures))
 
 pub index-taken-next : need.index-taken-next
 index-taken-next g c =

@@ -33,6 +33,6 @@ returns c =
     let is : rs ++ ns ≡ tape-of m = ap (λ z. z ++ ns) er ∙ ap (λ z. numbered run-bytes 0 (m .runs) ++ z) en ∙ sym (tape-parts m) in
     let put = put-put out 0 (c .put-runs-at .result) rs ns (omega arith) (omega arith) in
     let left : c .put-names-end .last .out ≡ tape-of m ++ drop (length (tape-of m)) out =
-        c .put-names-end .ensures .left ∙ ap (λ z. put-at z (c .put-runs-at .result) ns) (c .put-runs-at .ensures .left) ∙ put ∙ put-first out (rs ++ ns) ∙ ap (λ z. z ++ drop (length z) out) is in
+    c .put-names-end .ensures .left ∙ ap (λ z. put-at z (c .put-runs-at .result) ns) (c .put-runs-at .ensures .left) ∙ put ∙ put-first out (rs ++ ns) ∙ ap (λ z. z ++ drop (length z) out) is in
     let done = with-room m out (c .put-names-end .result) (c .put-names-end .last .out) (omega arith) (omega arith) left in
     record { done = done; law = on-history m _ _ _ done }

@@ -1,0 +1,3 @@
+pub mod isolated;
+pub mod wear;
+pub mod worn;
