@@ -22,7 +22,7 @@ use Rattle.player.specs.declared.play.Turn.{Turn}
 use Rattle.player.specs.Faults.{Layer-name, Told-fault, in-tape, in-listing, layer-number, layer-name}
 use Rattle.player.specs.Lines.{Reply, line-of}
 use Rattle.player.specs.Writing.{line-left}
-use Rattle.player.specs.Play.{Desk, new-desk, Step, done, failed, asked, step, Item, items, Outcome, ends, faults, behind, Play-done}
+use Rattle.player.specs.Play.{Desk, new-desk, Step, done, failed, asked, step, Item, items, Outcome, ends, faults, behind, played, Play-done}
 use Rattle.player.specs.Obeying.{Told-turn, line-told, Obeyed, told-written, Turned}
 use Rattle.player.proofs.Fields.{fits, lacks}
 use Rattle.player.proofs.Outcomes.{May, may-end, may-unread, may-done, may-fail, may-ask, may-lack, items-read, items-front, items-unread}
@@ -254,3 +254,9 @@ promised tape was len l x rig fault room back none map-is fault-is m =
       fault-is = fault-is ∙ sym (ap (λ (o : Outcome). o .fault) (m .comes));
       listing-is = sym (take-append-drop len l) ∙ ap (λ (t : List ℕ). take len l ++ t) back ∙ ap (λ (t : List ℕ). t ++ drop len was) (sym text);
     }
+
+-- what is written lies within the buffer
+pub within-listing : (bytes was : List ℕ) (rig : Map) (len : ℕ) (fault : Option Told-fault) (is : List ℕ) → Play-done bytes was rig len fault is → len ≤ length is
+within-listing bytes was rig len fault is p =
+    let e = ap length (p .listing-is) ∙ length-append (played new-desk (items 0 0 bytes) (p .replies) (length was) .text) (drop len was) in
+    omega (arith, p .len-is)
