@@ -15,4 +15,4 @@ loop-v-again c =
     below-more _ _
     (λ k h. let ne : k ≢ c .loop-v .v = omega arith in rw getD-set-other (c .loop-v .inv k h))
     (let lt : c .loop-v .v < length (c .loop-v .row) = omega arith in
-     rw getD-set-same (c .cost-of .ensures ∙ ap cost-number (getD-default (c .args .board .now) (c .loop-v .v) _ Absent (c .loop-v-test .taken))))
+    rw getD-set-same (c .cost-of .ensures ∙ ap cost-number (getD-default (c .args .board .now) (c .loop-v .v) _ Absent (c .loop-v-test .taken))))
