@@ -1,27 +1,29 @@
 // The least costs of a small rig once more, by trying every walk that repeats no run.
 use crate::fault::Fault;
 use crate::fault::FaultFromRefused;
-use crate::relaxation::first_cost;
+use crate::price::Progress;
+use crate::price::ProgressClone;
+use crate::price::set_out;
+use crate::price::step;
+use crate::question::Question;
 use crate::relaxation::is_same;
 use crate::relaxation::lower;
-use crate::relaxation::next_cost;
 use std::alloc::Global;
-use track::run::Run;
 use walks::kind::CostKind;
 use walks::rule::HandoverRule;
 
 /// The most runs of a rig whose walks are all tried.
 pub const FEW_RUNS: usize = 5;
 
-/// As many walks repeat none of five runs: 5 of one run, 5 · 4 of two, and so on.
-const MOST_WALKS: usize = 5 + 20 + 60 + 120 + 120;
+/// As many walks repeat none of five runs: the empty one, 5 of one run, 5 · 4 of two, and so on.
+const MOST_WALKS: usize = 1 + 5 + 20 + 60 + 120 + 120;
 
-/// A walk that repeats no run: which runs it has, the last of them, and its cost.
+/// A walk that repeats no run: which runs it has, the last of them, and how far it has come.
 #[derive(Clone, Copy, Drop)]
 struct Tried<C> {
     has: [bool; FEW_RUNS],
-    last: usize,
-    cost: C,
+    last: Option<usize>,
+    so_far: Progress<C>,
 }
 
 /// The same runs and one more.
@@ -32,82 +34,67 @@ fn with_run(mut has: [bool; FEW_RUNS], run: usize) -> [bool; FEW_RUNS] {
     has
 }
 
-/// The walks of one run, to go on from.
-fn begin_walks<K: CostKind>(
-    heap: Global,
-    kind: &K,
-    runs: &[Run],
-    home: u8,
-) -> Result<Vec<Tried<K::Cost>>, Fault> {
-    let mut walks = Vec::new(heap);
-    for (last, run) in runs.iter().enumerate() {
-        if let Some(cost) = first_cost(kind, home, *run) {
-            let has = with_run([false; FEW_RUNS], last);
-            walks.push(Tried { has, last, cost })?;
-        }
-    }
-    Ok(walks)
-}
-
-/// The walk that goes on from `walk` by the run of this number, if it may and does not have it.
+/// The walk that goes on by the run of this number, if it may and does not have that run.
 fn longer<K: CostKind, R: HandoverRule>(
-    kind: &K,
-    rule: &R,
-    runs: &[Run],
+    asked: &Question<K, R>,
     walk: Tried<K::Cost>,
     number: usize,
 ) -> Option<Tried<K::Cost>> {
-    if walk.last >= runs.len() || number >= runs.len() {
+    if number >= asked.runs.len() || number >= FEW_RUNS || walk.has[number] {
         return None;
     }
-    if number >= FEW_RUNS || walk.has[number] {
-        return None;
-    }
-    let cost = next_cost(kind, rule, runs[walk.last], walk.cost, runs[number])?;
+    let so_far = step(asked, walk.so_far, asked.runs[number])?;
     Some(Tried {
         has: with_run(walk.has, number),
-        last: number,
-        cost,
+        last: Some(number),
+        so_far,
     })
 }
 
-/// Adds the walks that go on from `walk` by one run.
+/// Adds the walks that go on by one run.
 fn go_on<K: CostKind, R: HandoverRule>(
-    kind: &K,
-    rule: &R,
-    runs: &[Run],
+    asked: &Question<K, R>,
     walk: Tried<K::Cost>,
     walks: &mut Vec<Tried<K::Cost>>,
 ) -> Result<(), Fault> {
-    for number in 0..runs.len() {
-        if let Some(next) = longer(kind, rule, runs, walk, number) {
+    for number in 0..asked.runs.len() {
+        if let Some(next) = longer(asked, walk, number) {
             walks.push(next)?;
         }
     }
     Ok(())
 }
 
+/// Lowers the least cost of the walks that end with the same run.
+fn keep_least<K: CostKind>(kind: &K, walk: Tried<K::Cost>, least: &mut [Option<K::Cost>]) {
+    if let Some(last) = walk.last {
+        if last < least.len() {
+            lower(kind, &mut least[last], Some(walk.so_far.cost));
+        }
+    }
+}
+
 /// The least costs by last run of all legal walks from the home that repeat no run.
 fn tried_costs<K: CostKind, R: HandoverRule>(
     heap: Global,
-    kind: &K,
-    rule: &R,
-    runs: &[Run],
-    home: u8,
+    asked: &Question<K, R>,
 ) -> Result<Vec<Option<K::Cost>>, Fault> {
     let mut least = Vec::new(heap);
-    for _ in runs {
+    for _ in asked.runs {
         least.push(None)?;
     }
-    let mut walks = begin_walks(heap, kind, runs, home)?;
+    let mut walks = Vec::new(heap);
+    walks.push(Tried {
+        has: [false; FEW_RUNS],
+        last: None,
+        so_far: set_out(asked),
+    })?;
     for _ in 0..=MOST_WALKS {
         let Some(walk) = walks.pop() else {
             return Ok(least);
         };
-        if let Some(label) = least.get_mut(walk.last) {
-            lower(kind, label, Some(walk.cost));
-        }
-        go_on(kind, rule, runs, walk, &mut walks)?;
+        keep_least(asked.kind, walk, &mut least);
+        go_on(asked, walk, &mut walks)?;
     }
     Err(Fault::TooManyWalks)
 }
@@ -115,15 +102,12 @@ fn tried_costs<K: CostKind, R: HandoverRule>(
 /// Holds the least costs of a rig of few runs to those of all its walks.
 pub fn check_costs<K: CostKind, R: HandoverRule>(
     heap: Global,
-    kind: &K,
-    rule: &R,
-    runs: &[Run],
-    home: u8,
+    asked: &Question<K, R>,
     labels: &[Option<K::Cost>],
 ) -> Result<(), Fault> {
-    let least = tried_costs(heap, kind, rule, runs, home)?;
+    let least = tried_costs(heap, asked)?;
     for (label, cost) in labels.iter().zip(least.iter()) {
-        if !is_same(kind, *label, *cost) {
+        if !is_same(asked.kind, *label, *cost) {
             return Err(Fault::SecondOpinion);
         }
     }

@@ -1,6 +1,8 @@
 // What a list of runs is as a walk, step by step.
 use crate::fault::Fault;
 use crate::fault::FaultFromRefused;
+use crate::question::Question;
+use crate::relaxation::is_same;
 use routing::place::Place;
 use std::alloc::Global;
 use track::run::Run;
@@ -12,14 +14,22 @@ use walks::rule::HandoverRule;
 pub struct Progress<C> {
     /// Its last run, unless it is the empty walk.
     last: Option<Run>,
-    pub end: u8,
+    end: u8,
     pub cost: C,
 }
 
+/// The empty walk.
+pub fn set_out<K: CostKind, R: HandoverRule>(asked: &Question<K, R>) -> Progress<K::Cost> {
+    Progress {
+        last: None,
+        end: asked.home,
+        cost: asked.kind.start(),
+    }
+}
+
 /// One run more, if the walk may go on along it.
-fn step<K: CostKind, R: HandoverRule>(
-    kind: &K,
-    rule: &R,
+pub fn step<K: CostKind, R: HandoverRule>(
+    asked: &Question<K, R>,
     so_far: Progress<K::Cost>,
     run: Run,
 ) -> Option<Progress<K::Cost>> {
@@ -28,38 +38,31 @@ fn step<K: CostKind, R: HandoverRule>(
     }
     let mut cost = so_far.cost;
     if let Some(last) = so_far.last {
-        let penalty = rule.ask(so_far.end, last.winch, run.winch)?;
-        cost = kind.over(cost, penalty, last.winch != run.winch);
+        let penalty = asked.rule.ask(so_far.end, last.winch, run.winch)?;
+        cost = asked.kind.over(cost, penalty, last.winch != run.winch);
     }
     Some(Progress {
         last: Some(run),
         end: run.head,
-        cost: kind.along(cost, run.time, run.strain),
+        cost: asked.kind.along(cost, run.time, run.strain),
     })
 }
 
 /// Where these runs lead from the home and at what cost, if they are a legal walk.
-pub fn walk_along<K: CostKind, R: HandoverRule>(
-    kind: &K,
-    rule: &R,
-    runs: &[Run],
-    home: u8,
+fn walk_along<K: CostKind, R: HandoverRule>(
+    asked: &Question<K, R>,
     walk: &[u16],
 ) -> Option<Progress<K::Cost>> {
-    let mut so_far = Progress {
-        last: None,
-        end: home,
-        cost: kind.start(),
-    };
+    let mut so_far = set_out(asked);
     for number in walk {
-        let run = runs.get(usize::from(*number))?;
-        so_far = step(kind, rule, so_far, *run)?;
+        let run = asked.runs.get(usize::from(*number))?;
+        so_far = step(asked, so_far, *run)?;
     }
     Some(so_far)
 }
 
 /// Whether a number stands in the list twice.
-pub fn repeats(walk: &[u16]) -> bool {
+fn repeats(walk: &[u16]) -> bool {
     for (i, number) in walk.iter().enumerate() {
         if walk[0..i].contains(number) {
             return true;
@@ -70,10 +73,7 @@ pub fn repeats(walk: &[u16]) -> bool {
 
 /// Whether this is a legal walk from the home to `mark` that repeats no run and has this cost.
 pub fn check_walk<K: CostKind, R: HandoverRule>(
-    kind: &K,
-    rule: &R,
-    runs: &[Run],
-    home: u8,
+    asked: &Question<K, R>,
     mark: u8,
     walk: &[u16],
     cost: K::Cost,
@@ -81,17 +81,16 @@ pub fn check_walk<K: CostKind, R: HandoverRule>(
     if repeats(walk) {
         return Err(Fault::Repeats);
     }
-    let Some(walked) = walk_along(kind, rule, runs, home, walk) else {
+    let Some(walked) = walk_along(asked, walk) else {
         return Err(Fault::NoWalk);
     };
     if walked.end != mark {
         return Err(Fault::NoWalk);
     }
-    if kind.at_most(walked.cost, cost) && kind.at_most(cost, walked.cost) {
-        Ok(())
-    } else {
-        Err(Fault::WalkCost)
+    if !is_same(asked.kind, Some(walked.cost), Some(cost)) {
+        return Err(Fault::WalkCost);
     }
+    Ok(())
 }
 
 /// The run before a run, by the table.

@@ -5,6 +5,7 @@ ghost use Rattle.std.specs.Of.Vec.{vec-len};
 ghost use Rattle.std.specs.Vec.{made};
 use crate::fault::Fault;
 use crate::fault::FaultFromAlloc;
+use crate::question::Question;
 use std::alloc::AllocError;
 use std::alloc::Global;
 use track::run::Run;
@@ -98,14 +99,11 @@ fn relax_all<K: CostKind, R: HandoverRule>(
 /// A round more than there are runs always comes to rest: a walk that repeats no run has no more runs than that.
 pub fn least_costs<K: CostKind, R: HandoverRule>(
     heap: Global,
-    kind: &K,
-    rule: &R,
-    runs: &[Run],
-    home: u8,
+    asked: &Question<K, R>,
 ) -> Result<Vec<Option<K::Cost>>, Fault> {
-    let mut labels = begin_labels(heap, kind, runs, home)?;
-    for _ in 0..=runs.len() {
-        if !relax_all(kind, rule, runs, &mut labels) {
+    let mut labels = begin_labels(heap, asked.kind, asked.runs, asked.home)?;
+    for _ in 0..=asked.runs.len() {
+        if !relax_all(asked.kind, asked.rule, asked.runs, &mut labels) {
             return Ok(labels);
         }
     }
@@ -113,20 +111,18 @@ pub fn least_costs<K: CostKind, R: HandoverRule>(
 }
 
 /// The least cost of the legal walks from the home to a point, by the labels of the runs.
-pub fn least_to<K: CostKind>(
-    kind: &K,
-    runs: &[Run],
+pub fn least_to<K: CostKind, R: HandoverRule>(
+    asked: &Question<K, R>,
     labels: &[Option<K::Cost>],
-    home: u8,
     point: u8,
 ) -> Option<K::Cost> {
     let mut least = None;
-    if point == home {
-        least = Some(kind.start());
+    if point == asked.home {
+        least = Some(asked.kind.start());
     }
-    for (run, label) in runs.iter().zip(labels) {
+    for (run, label) in asked.runs.iter().zip(labels) {
         if run.head == point {
-            lower(kind, &mut least, *label);
+            lower(asked.kind, &mut least, *label);
         }
     }
     least
