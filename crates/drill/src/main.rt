@@ -47,7 +47,7 @@ use walks::time::TimeKind;
 use worked::try_worked_cases;
 
 /// How many rigs are drawn.
-const RIGS: usize = 300;
+const RIGS: usize = 800;
 
 /// What was tried, and what came of it.
 #[derive(Drop)]
@@ -71,10 +71,10 @@ fn check_runs(rig: &Show, runs: &[Run]) -> Result<(), Fault> {
 }
 
 /// Asks a rig under one rule, by each kind of cost.
-fn try_kinds<'a, R: HandoverRule>(
+fn try_kinds<R: HandoverRule>(
     heap: Global,
-    trial: &Trial<'a>,
-    rule: &'a R,
+    trial: &Trial,
+    rule: &R,
     report: &mut Report,
 ) -> Result<(), Fault> {
     try_homes(heap, trial, &Time, rule, &mut report.time, &mut report.log)?;

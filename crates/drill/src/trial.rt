@@ -116,7 +116,7 @@ fn try_home<K: CostKind, R: HandoverRule>(
 /// Asks from every home.
 pub fn try_homes<'a, K: CostKind, R: HandoverRule>(
     heap: Global,
-    trial: &Trial<'a>,
+    trial: &Trial,
     kind: &'a K,
     rule: &'a R,
     scores: &mut KindScores,
