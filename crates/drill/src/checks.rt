@@ -79,7 +79,11 @@ fn check_last_run<K: CostKind, R: HandoverRule>(
     last: Option<u16>,
 ) -> Result<(), Fault> {
     let Some(number) = last else {
-        return if point == asked.home { Ok(()) } else { Err(Fault::LastRun) };
+        return if point == asked.home {
+            Ok(())
+        } else {
+            Err(Fault::LastRun)
+        };
     };
     let Some(run) = asked.runs.get(usize::from(number)) else {
         return Err(Fault::LastRun);
@@ -139,7 +143,14 @@ pub fn check_survey<K: CostKind, R: HandoverRule>(
     let laid = asked.runs.len();
     let mut table = marked_places(heap, asked.kind, laid.saturating_add(MORE))?;
     let mut board = marked_places(heap, asked.kind, POINTS + MORE)?;
-    survey(rig, asked.kind, asked.rule, asked.home, &mut table, &mut board)?;
+    survey(
+        rig,
+        asked.kind,
+        asked.rule,
+        asked.home,
+        &mut table,
+        &mut board,
+    )?;
     check_table(heap, asked, labels, &table)?;
     check_places(asked.kind, &table, laid)?;
     check_board(asked, labels, &table, &board)?;
@@ -179,7 +190,15 @@ pub fn check_route<K: CostKind, R: HandoverRule>(
     let laid = asked.runs.len();
     let mut table = marked_places(heap, asked.kind, laid.saturating_add(MORE))?;
     let mut list = marked_numbers(heap, laid.saturating_add(MORE))?;
-    let answer = route(rig, asked.kind, asked.rule, asked.home, mark, &mut table, &mut list);
+    let answer = route(
+        rig,
+        asked.kind,
+        asked.rule,
+        asked.home,
+        mark,
+        &mut table,
+        &mut list,
+    );
     check_table(heap, asked, labels, &table)?;
     check_places(asked.kind, &table, laid)?;
     let least = least_to(asked, labels, mark);

@@ -93,12 +93,7 @@ fn strike_run(rig: &mut GetIn, runs: &mut Vec<Run>, number: usize) -> Result<(),
 }
 
 /// Alters the time of a run of the rig, unless it is struck or the number is too high.
-fn retime_run(
-    rig: &mut GetIn,
-    runs: &mut Vec<Run>,
-    number: usize,
-    time: u16,
-) -> Result<(), Fault> {
+fn retime_run(rig: &mut GetIn, runs: &mut Vec<Run>, number: usize, time: u16) -> Result<(), Fault> {
     if number >= runs.len() || number > 255 || runs[number].struck {
         return Ok(());
     }
@@ -119,7 +114,16 @@ fn draw_points(heap: Global, dice: &mut Dice) -> Result<Vec<u8>, Fault> {
 
 /// A rig of up to nine runs over two to six points, some of the runs struck and some retimed.
 pub fn draw_rig(heap: Global, dice: &mut Dice) -> Result<Drawn, Fault> {
-    let times = dice.pick(&[Times::Still, Times::Equal, Times::Small, Times::Small, Times::Wide], Times::Small);
+    let times = dice.pick(
+        &[
+            Times::Still,
+            Times::Equal,
+            Times::Small,
+            Times::Small,
+            Times::Wide,
+        ],
+        Times::Small,
+    );
     let mut points = draw_points(heap, dice)?;
     let mut rig = GetIn::new();
     let mut runs = Vec::new(heap);

@@ -78,17 +78,26 @@ fn try_kinds<R: HandoverRule>(
     report: &mut Report,
 ) -> Result<(), Fault> {
     try_homes(heap, trial, &Time, rule, &mut report.time, &mut report.log)?;
-    try_homes(heap, trial, &Strain, rule, &mut report.strain, &mut report.log)?;
-    try_homes(heap, trial, &HandOvers, rule, &mut report.hand_overs, &mut report.log)
+    try_homes(
+        heap,
+        trial,
+        &Strain,
+        rule,
+        &mut report.strain,
+        &mut report.log,
+    )?;
+    try_homes(
+        heap,
+        trial,
+        &HandOvers,
+        rule,
+        &mut report.hand_overs,
+        &mut report.log,
+    )
 }
 
 /// Draws a rig, and asks it under each rule.
-fn try_rig(
-    heap: Global,
-    dice: &mut Dice,
-    number: usize,
-    report: &mut Report,
-) -> Result<(), Fault> {
+fn try_rig(heap: Global, dice: &mut Dice, number: usize, report: &mut Report) -> Result<(), Fault> {
     let Drawn { rig, runs, points } = draw_rig(heap, dice)?;
     let rig = rig.open();
     if let Some(fault) = report.rigs.count(check_runs(&rig, &runs)) {
@@ -118,7 +127,12 @@ fn try_all(heap: Global, report: &mut Report) -> Result<(), Fault> {
         try_rig(heap, &mut dice, number, report)?;
     }
     try_worked_cases(heap, &mut report.worked, &mut report.log)?;
-    try_refusals(heap, &mut report.refused_surveys, &mut report.refused_routes, &mut report.log)
+    try_refusals(
+        heap,
+        &mut report.refused_surveys,
+        &mut report.refused_routes,
+        &mut report.log,
+    )
 }
 
 fn print_score(rt: &LibcRuntime, what: &str, score: Score) -> io::Result<()> {
@@ -130,10 +144,26 @@ fn print_score(rt: &LibcRuntime, what: &str, score: Score) -> io::Result<()> {
 fn print_kind(rt: &LibcRuntime, scores: KindScores) -> io::Result<()> {
     let heap = rt.alloc();
     let kind = scores.kind;
-    print_score(rt, format!(heap, "surveys by {kind}")?.as_str(), scores.surveys)?;
-    print_score(rt, format!(heap, "routes by {kind}")?.as_str(), scores.routes)?;
-    print_score(rt, format!(heap, "no way by {kind}")?.as_str(), scores.no_ways)?;
-    print_score(rt, format!(heap, "all walks by {kind}")?.as_str(), scores.walks)
+    print_score(
+        rt,
+        format!(heap, "surveys by {kind}")?.as_str(),
+        scores.surveys,
+    )?;
+    print_score(
+        rt,
+        format!(heap, "routes by {kind}")?.as_str(),
+        scores.routes,
+    )?;
+    print_score(
+        rt,
+        format!(heap, "no way by {kind}")?.as_str(),
+        scores.no_ways,
+    )?;
+    print_score(
+        rt,
+        format!(heap, "all walks by {kind}")?.as_str(),
+        scores.walks,
+    )
 }
 
 fn print_report(rt: &LibcRuntime, report: &Report) -> io::Result<()> {

@@ -100,7 +100,10 @@ fn run_before<C: Copy>(table: &[Place<C>], run: u16) -> Result<Option<u16>, Faul
     };
     match *place {
         Place::Absent => Err(Fault::NoBeginning),
-        Place::Reached { cost: _, run: before } => Ok(before),
+        Place::Reached {
+            cost: _,
+            run: before,
+        } => Ok(before),
     }
 }
 

@@ -114,7 +114,12 @@ fn try_surveys_from(
         for room in [0, 127, 128, 129] {
             let outcome = check_refused_survey(heap, rig, home, places, room);
             if let Some(fault) = score.count(outcome) {
-                log.add(format!(heap, "survey from {home}, table {places}, board {room}: {fault}")?)?;
+                log.add(
+                    format!(
+                        heap,
+                        "survey from {home}, table {places}, board {room}: {fault}"
+                    )?,
+                )?;
             }
         }
     }
@@ -134,7 +139,12 @@ fn try_routes_between(
         for room in [0, 3, 4, 5] {
             let outcome = check_refused_route(heap, rig, home, mark, places, room);
             if let Some(fault) = score.count(outcome) {
-                log.add(format!(heap, "route from {home} to {mark}, table {places}, list {room}: {fault}")?)?;
+                log.add(
+                    format!(
+                        heap,
+                        "route from {home} to {mark}, table {places}, list {room}: {fault}"
+                    )?,
+                )?;
             }
         }
     }

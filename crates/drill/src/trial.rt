@@ -42,7 +42,12 @@ fn try_survey<K: CostKind, R: HandoverRule>(
         let rule = trial.rule;
         let kind = scores.kind;
         let home = asked.home;
-        log.add(format!(heap, "rig {number}, {rule}, {kind}, survey from {home}: {fault}")?)?;
+        log.add(
+            format!(
+                heap,
+                "rig {number}, {rule}, {kind}, survey from {home}: {fault}"
+            )?,
+        )?;
     }
     Ok(())
 }
@@ -68,7 +73,12 @@ fn try_route<K: CostKind, R: HandoverRule>(
         let rule = trial.rule;
         let kind = scores.kind;
         let home = asked.home;
-        log.add(format!(heap, "rig {number}, {rule}, {kind}, route from {home} to {mark}: {fault}")?)?;
+        log.add(
+            format!(
+                heap,
+                "rig {number}, {rule}, {kind}, route from {home} to {mark}: {fault}"
+            )?,
+        )?;
     }
     Ok(())
 }
@@ -91,7 +101,12 @@ fn try_walks<K: CostKind, R: HandoverRule>(
         let rule = trial.rule;
         let kind = scores.kind;
         let home = asked.home;
-        log.add(format!(heap, "rig {number}, {rule}, {kind}, walks from {home}: {fault}")?)?;
+        log.add(
+            format!(
+                heap,
+                "rig {number}, {rule}, {kind}, walks from {home}: {fault}"
+            )?,
+        )?;
     }
     Ok(())
 }

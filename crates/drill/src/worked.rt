@@ -1,22 +1,24 @@
 // The worked cases, asked of the calls.
+use crate::buffers::marked_numbers;
+use crate::buffers::marked_places;
 use crate::fault::Fault;
+use crate::fault::FaultDisplay;
+use crate::fault::FaultFromAlloc;
 use crate::fault::FaultFromMap;
 use crate::fault::FaultFromRule;
 use crate::fault::FaultFromSearch;
-use crate::buffers::marked_numbers;
-use crate::buffers::marked_places;
 use crate::relaxation::is_same;
 use crate::score::Log;
 use crate::score::Score;
-use crate::fault::FaultDisplay;
-use crate::fault::FaultFromAlloc;
 use routing::refusal::SearchRefusal;
 use routing::route::route;
 use std::alloc::Global;
 use track::rig::GetIn;
 use track::rig::Show;
 use walks::by_point::ByPoint;
+use walks::by_point::PointRule;
 use walks::flat::Flat;
+use walks::flat::FlatRule;
 use walks::hand_overs::HandOvers;
 use walks::hand_overs::HandOversKind;
 use walks::kind::CostKind;
@@ -26,8 +28,6 @@ use walks::strain::Strain;
 use walks::strain::StrainKind;
 use walks::time::Time;
 use walks::time::TimeKind;
-use walks::flat::FlatRule;
-use walks::by_point::PointRule;
 
 /// A route that was found.
 #[derive(Drop)]

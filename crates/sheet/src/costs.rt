@@ -26,11 +26,7 @@ pub impl fmt::Display for Tenths as TenthsDisplay {
 pub(crate) fn plural_end(count: u64) -> &'static str
     ensures { λ r. ⌜ now r ≡ plural count ⌝ }
 {
-    if count == 1 {
-        ""
-    } else {
-        "s"
-    }
+    if count == 1 { "" } else { "s" }
 }
 
 /// A cost of a kind.

@@ -47,7 +47,10 @@ pub impl fmt::Display for Hop as HopDisplay {
         let tail = self.run.tail;
         let head = self.run.head;
         let winch = self.run.winch;
-        write!(f, "  from {tail} by run {number} on winch {winch} to {head}")
+        write!(
+            f,
+            "  from {tail} by run {number} on winch {winch} to {head}"
+        )
     }
 }
 
@@ -66,7 +69,10 @@ pub impl fmt::Display for HandOver as HandOverDisplay {
         let point = self.point;
         let arriving = self.arriving;
         let leaving = self.leaving;
-        write!(f, "  hand over from winch {arriving} to winch {leaving} at point {point}")
+        write!(
+            f,
+            "  hand over from winch {arriving} to winch {leaving} at point {point}"
+        )
     }
 }
 

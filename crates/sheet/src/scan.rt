@@ -94,9 +94,5 @@ pub(crate) fn is_over(bytes: &[u8]) -> bool
 pub(crate) fn if_ended<T: Drop>(bytes: &[u8], value: T) -> Option<T>
     ensures { λ r. ⌜ r ≡ ended (now (bytes .entry)) value ⌝ }
 {
-    if is_over(bytes) {
-        Some(value)
-    } else {
-        None
-    }
+    if is_over(bytes) { Some(value) } else { None }
 }

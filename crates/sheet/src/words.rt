@@ -53,11 +53,7 @@ pub enum Line<'a> {
 fn call_if_ended<'a>(bytes: &[u8], call: Call<'a>) -> Option<Call<'a>>
     ensures { λ r. ⌜ mapped call-of r ≡ ended (now (bytes .entry)) (call-of (call .entry)) ⌝ }
 {
-    if is_over(bytes) {
-        Some(call)
-    } else {
-        None
-    }
+    if is_over(bytes) { Some(call) } else { None }
 }
 
 /// `lay` takes tail, head, winch, time and strain.
