@@ -1,4 +1,6 @@
 // The survey as the benchmark's C++ calls it.
+#![tactic(auto)]
+
 mod costs;
 pub mod given;
 

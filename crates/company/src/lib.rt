@@ -1,3 +1,5 @@
+#![tactic(auto)]
+
 pub mod isolated;
 pub mod wear;
 pub mod worn;

@@ -1,4 +1,6 @@
 // Plays the tape on standard input, and prints its listing.
+#![tactic(auto)]
+
 ghost use Rattle.std.specs.Prelude.{◌≡◌, IfOk, string_bytes};
 ghost use Rattle.player.specs.Faults.{told_fault};
 ghost use Rattle.cues.specs.FaultText.{fault_text};

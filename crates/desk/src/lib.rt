@@ -1,3 +1,5 @@
+#![tactic(auto)]
+
 pub mod ask;
 pub mod look;
 pub mod rules;

@@ -1,4 +1,6 @@
 // Compares what survey and route answer with a computation of its own, on many small rigs that look random and are the same in each run.
+#![tactic(auto)]
+
 mod buffers;
 mod checks;
 mod dice;

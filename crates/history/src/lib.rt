@@ -1,3 +1,5 @@
+#![tactic(auto)]
+
 ghost use contract.Fact.{fact};
 ghost use Rattle.history.specs.Events.{CallsStand};
 

@@ -1,4 +1,6 @@
 // The player as C calls it.
+#![tactic(auto)]
+
 ghost use Rattle.std.specs.Prelude.{◌≡◌};
 ghost use Rattle.player.specs.Faults.{layer_name};
 ghost use Rattle.kobrinza.specs.Reports.{layer_code, Reported};

@@ -1,3 +1,5 @@
+#![tactic(auto)]
+
 pub mod copy;
 mod desk;
 pub mod fault;

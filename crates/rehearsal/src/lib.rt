@@ -1,3 +1,5 @@
+#![tactic(auto)]
+
 pub mod half;
 pub mod house;
 

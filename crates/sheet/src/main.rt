@@ -1,5 +1,7 @@
 // Reads a crew's sheet of calls in words, carries it out on a rig in get-in, and prints what each line was answered,
 // the map that it leaves, and the tape of that map.
+#![tactic(auto)]
+
 mod costs;
 mod hex;
 mod obey;

@@ -1,4 +1,3 @@
 pub mod Lists
 pub mod History
 pub mod Whole
-pub mod Same

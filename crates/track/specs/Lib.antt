@@ -5,3 +5,4 @@ pub mod Answers
 pub mod Map
 pub mod Calls
 pub mod History
+pub mod Equal

@@ -1,5 +1,7 @@
 // Tries what the table of worked cases does not show: each call at its accepted and refused neighbours, each buffer one short, exact and long,
 // and each command of a tape, whole and cut. Prints what was tried, how often, and how often it came out as it should.
+#![tactic(auto)]
+
 mod house;
 mod report;
 mod rules;

@@ -1,3 +1,5 @@
+#![tactic(auto)]
+
 pub mod by_pair;
 pub mod by_point;
 pub mod flat;
