@@ -1,5 +1,5 @@
 -- Whole lists of calls.
-use Rattle.std.proofs.Common.{◌≡◌, List, [], ◌∷◌, ◌++◌, sym, refl, ap, ◌∙◌, subst}
+use Rattle.std.proofs.Common.{◌≡◌, List, [], ◌∷◌, ◌++◌, sym, ap, ◌∙◌, subst}
 use Rattle.track.specs.Map.{Map, after, blank}
 use Rattle.track.specs.Calls.{afters, map_after}
 use Rattle.track.specs.History.{Event, Laid, Struck, Retimed, Named, Opened, Closed, Written, call_of, calls_of, State, get_in, Step, Happened, Right, AnswersStand, MapStands, CallsStand}

@@ -1,6 +1,6 @@
 -- The map of a rig, the calls on it, what each answers and what it makes of the map.
 -- Everything is worked out from the map and the arguments alone.
-use Rattle.std.specs.Prelude.{◌≡◌, ℕ, Bool, true, false, not, List, [], ◌∷◌, ◌++◌, length, get_or, replicate, ◌==◌, nat_le, nat_lt, slice_index_or, slice_set}
+use Rattle.std.specs.Prelude.{◌≡◌, ℕ, true, false, not, List, [], ◌∷◌, ◌++◌, length, get_or, replicate, ◌==◌, nat_le, nat_lt, slice_index_or, slice_set}
 use Rattle.track.specs.declared.run.Run.{Run}
 use Rattle.track.specs.Sizes.{points, winches, most_strain, most_runs}
 use Rattle.track.specs.Runs.{idle, name_ok, no_name}

@@ -1,10 +1,9 @@
 ghost use Rattle.std.specs.Prelude.{◌≡◌, Decides};
 ghost use Rattle.std.specs.Ordering.{on};
-ghost use Rattle.track.specs.Equal.{same_map};
+ghost use Rattle.track.specs.Equal.{same_map, same_map_per};
 ghost use Rattle.track.specs.Map.{EqualMaps};
 ghost use Rattle.track.specs.Calls.{map_of};
-ghost use Rattle.std.specs.Cmp.Rules.{comparing};
-ghost use Rattle.std.proofs.Common.{rules};
+ghost use Rattle.std.specs.Cmp.{on_per};
 
 use crate::layout::Layout;
 use crate::rig::{GetIn, Show};
@@ -22,7 +21,7 @@ impl Layout {
 impl PartialEq for GetIn {
     ghost eq = { on (λ r. map_of r.layout) same_map };
 
-    ghost laws = { Prim.search (comparing, rules) };
+    ghost laws = { on_per (λ r. map_of r.layout) same_map_per };
 
     /// Whether two rigs are equal: their runs, struck marks and names agree.
     fn eq(&self, other: &GetIn) -> bool
@@ -36,7 +35,7 @@ impl PartialEq for GetIn {
 impl PartialEq for Show {
     ghost eq = { on (λ r. map_of r.layout) same_map };
 
-    ghost laws = { Prim.search (comparing, rules) };
+    ghost laws = { on_per (λ r. map_of r.layout) same_map_per };
 
     /// Whether two rigs are equal: their runs, struck marks and names agree.
     fn eq(&self, other: &Show) -> bool
