@@ -12,7 +12,7 @@ isolated t winch point arriving leaving =
 abbrev pub wear_kind : Kind ℕ
 wear_kind = record {
   start = 0;
-  at_most = leb;
+  at_most = nat_le;
   along = λ c time strain. min (c + time * strain) 18446744073709551615;
   over = λ c penalty differ. c;
   fits = λ c. nat_le c 18446744073709551615;

@@ -1,14 +1,12 @@
 -- Reading a command is the inverse of writing it.
-use Rattle.std.proofs.Common.{◌≡◌, ℕ, ◌+◌, ◌*◌, ◌/◌, ◌%◌, ◌<◌, ◌≤◌, Bool, true, cond, leb, List, [], ◌∷◌, ◌++◌, length, take, Ok, Err, sym, refl, ap, ◌∙◌, arith}
+use Rattle.std.proofs.Common.{◌≡◌, ℕ, ◌+◌, ◌*◌, ◌/◌, ◌%◌, ◌≤◌, Bool, cond, List, ◌++◌, length, Ok, Err, ap, ◌∙◌, arith}
 use native.Mathlib.Nat.{div-add-mod}
 use Rattle.std.proofs.lemmas.List.{take_at, length-append}
 use Rattle.std.proofs.lemmas.Bool.{le-leb}
-use Rattle.tape.specs.declared.command.KindName.{KindName}
 use Rattle.tape.specs.declared.command.KindName.TheVariants.{Time, Strain, HandOvers}
-use Rattle.tape.specs.declared.command.RuleName.{RuleName}
 use Rattle.tape.specs.declared.command.RuleName.TheVariants.{Flat, Point, Pair}
 use Rattle.tape.specs.declared.refusal.TapeCause.TheVariants.{TapeEnds}
-use Rattle.tape.specs.Commands.{Said, lay, strike, retime, name, set_flat, set_point, set_pair, use_rule, ask, bytes_of}
+use Rattle.tape.specs.Commands.{lay, strike, retime, name, set_flat, set_point, set_pair, use_rule, ask, bytes_of}
 use Rattle.tape.specs.Reading.{Read, whole, ReadsBack}
 
 -- all the bytes are there

@@ -1,11 +1,11 @@
 -- The bytes of one run and of one name, by cases.
-use Rattle.std.proofs.Common.{◌≡◌, ℕ, Bool, true, false, cond, List, [], ◌∷◌, ◌++◌, length, sym, refl, ap, ◌∙◌}
+use Rattle.std.proofs.Common.{◌≡◌, ℕ, Bool, true, false, cond, List, [], ◌∷◌, ◌++◌, ap, ◌∙◌}
 use Rattle.std.specs.List.{flat_map}
 use Rattle.std.specs.Str.{bytes_eq}
 use Rattle.std.proofs.lemmas.List.{append-nil}
 use Rattle.track.specs.declared.run.Run.{Run}
 use Rattle.track.specs.Runs.{no_name}
-use Rattle.tape.specs.Commands.{Said, lay, strike, name, bytes_of}
+use Rattle.tape.specs.Commands.{lay, strike, name, bytes_of}
 use Rattle.tape.specs.Buffers.{run_bytes, name_bytes}
 
 abbrev pub laid : Run → List ℕ

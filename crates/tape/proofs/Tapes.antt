@@ -1,5 +1,5 @@
 -- The tape in its two parts, and what is written of it.
-use Rattle.std.proofs.Common.{◌≡◌, ℕ, ◌+◌, ◌<◌, ◌≤◌, Bool, true, false, cond, ltb, List, [], ◌∷◌, ◌++◌, length, drop, sym, refl, ap, ◌∙◌, subst, arith}
+use Rattle.std.proofs.Common.{◌≡◌, ℕ, ◌+◌, ◌<◌, ◌≤◌, Bool, cond, List, [], ◌∷◌, ◌++◌, length, drop, sym, refl, ap, ◌∙◌, subst}
 use Rattle.std.specs.List.{flat_map}
 use Rattle.std.proofs.lemmas.List.{length-append}
 use Rattle.std.proofs.lemmas.Bool.{lt-ltb, le-ltb}
@@ -9,7 +9,7 @@ use Rattle.track.specs.Map.Call.{Write}
 use Rattle.track.specs.Calls.{map_after, LeftBy}
 use Rattle.track.proofs.History.{one_more, left_is}
 use Rattle.tape.specs.Commands.{bytes_of}
-use Rattle.tape.specs.Tape.{numbered, run_commands, name_commands, tape_of, write_answer, written, WriteDone}
+use Rattle.tape.specs.Tape.{numbered, run_commands, name_commands, tape_of, WriteDone}
 use Rattle.tape.specs.Buffers.{run_bytes, name_bytes}
 use Rattle.tape.proofs.Numbered.{joined_append, joined_numbered}
 

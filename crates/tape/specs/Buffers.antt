@@ -1,5 +1,5 @@
 -- Bytes put into a buffer, and the bytes of one run and of one name: for the inner functions of write.
-use Rattle.std.specs.Prelude.{ℕ, ◌+◌, List, [], ◌∷◌, ◌++◌, length, take, drop}
+use Rattle.std.specs.Prelude.{ℕ, ◌+◌, List, ◌++◌, length, take, drop}
 use Rattle.std.specs.List.{flat_map}
 use Rattle.track.specs.declared.run.Run.{Run}
 use Rattle.tape.specs.Commands.{bytes_of}

@@ -6,7 +6,7 @@ use Rattle.walks.specs.Kinds.{Kind}
 abbrev pub sum_kind : (top : ℕ) → (joint : (penalty : ℕ) → (differ : Bool) → ℕ) → Kind ℕ
 sum_kind top joint = record {
   start = 0;
-  at_most = leb;
+  at_most = nat_le;
   along = λ c time strain. min (c + time) top;
   over = λ c penalty differ. min (c + joint penalty differ) top;
   fits = λ c. nat_le c top;
@@ -39,7 +39,7 @@ handover_kind = sum_kind handover_top handover_joint
 abbrev pub strain_kind : Kind ℕ
 strain_kind = record {
   start = 0;
-  at_most = leb;
+  at_most = nat_le;
   along = λ c time strain. max c strain;
   over = λ c penalty differ. c;
   fits = λ c. true;

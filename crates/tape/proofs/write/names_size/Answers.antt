@@ -1,4 +1,4 @@
-use Rattle.std.proofs.Common.{◌≡◌, [], length, ap, ◌∙◌, arith}
+use Rattle.std.proofs.Common.{[], length, ap, ◌∙◌, arith}
 use Rattle.std.proofs.lemmas.List.{take_all}
 use Rattle.tape.specs.Tape.{numbered}
 use Rattle.tape.specs.Buffers.{name_bytes}
@@ -9,7 +9,7 @@ pub loop-point-preserved : goal.loop-point-preserved
 loop-point-preserved c =
     let p = c.loop-point.point in
     let more = length_more name_bytes c.args.names.now p [] (omega arith) in
-    let bytes = c.name-size-size.ensures.size p in
+    let bytes = c.name_size-size.ensures.size p in
     (omega arith, omega arith)
 
 pub returns : goal.returns

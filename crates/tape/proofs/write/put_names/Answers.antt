@@ -1,4 +1,4 @@
-use Rattle.std.proofs.Common.{◌≡◌, ◌+◌, [], length, get_or, take, sym, refl, ap, ◌∙◌, arith}
+use Rattle.std.proofs.Common.{◌+◌, [], length, get_or, take, ap, ◌∙◌, arith}
 use Rattle.std.proofs.lemmas.List.{take_all}
 use Rattle.tape.specs.Tape.{numbered}
 use Rattle.tape.specs.Buffers.{name_bytes, put_at}
@@ -9,8 +9,8 @@ use Rattle.tape.proofs.write.put_names.Goals as goal
 pub loop-point-init : goal.loop-point-init
 loop-point-init c = (omega arith, put_none c.args.out.now c.args.start)
 
-pub put-name-at-requires : goal.put-name-at-requires
-put-name-at-requires c =
+pub put_name-at-requires : goal.put_name-at-requires
+put_name-at-requires c =
     let g = room name_bytes c.args.names.now c.loop-point.point [] (omega arith) in
     omega arith
 

@@ -1,7 +1,6 @@
-use Rattle.std.proofs.Common.{◌≡◌, ℕ, ◌+◌, List, [], ◌∷◌, ◌++◌, length, sym, refl, ap, ◌∙◌, arith}
+use Rattle.std.proofs.Common.{length, ap, arith}
 use Rattle.tape.specs.Commands.{strike, bytes_of}
-use Rattle.tape.specs.Buffers.{put_at, run_bytes}
-use Rattle.tape.proofs.Items.{laid, run_struck, run_kept}
+use Rattle.tape.proofs.Items.{laid, run_struck}
 use Rattle.tape.proofs.Puts.{put_put}
 use Rattle.tape.proofs.write.put_run.Goals as goal
 

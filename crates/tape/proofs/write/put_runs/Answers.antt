@@ -1,14 +1,14 @@
-use Rattle.std.proofs.Common.{◌≡◌, length, get_or, take, sym, refl, ap, ◌∙◌, arith}
+use Rattle.std.proofs.Common.{length, get_or, take, ap, ◌∙◌, arith}
 use Rattle.std.proofs.lemmas.List.{take_all}
 use Rattle.track.specs.Runs.{idle}
 use Rattle.tape.specs.Tape.{numbered}
 use Rattle.tape.specs.Buffers.{run_bytes, put_at}
 use Rattle.tape.proofs.Numbered.{numbered_more, length_more, room}
-use Rattle.tape.proofs.Puts.{put_none, put_put}
+use Rattle.tape.proofs.Puts.{put_put}
 use Rattle.tape.proofs.write.put_runs.Goals as goal
 
-pub put-run-at-requires : goal.put-run-at-requires
-put-run-at-requires c =
+pub put_run-at-requires : goal.put_run-at-requires
+put_run-at-requires c =
     let g = room run_bytes c.args.runs.now c.loop-number.number idle (omega arith) in
     omega arith
 

@@ -1,4 +1,4 @@
-use Rattle.std.proofs.Common.{◌≡◌, length, get_or, ap, ◌∙◌, arith}
+use Rattle.std.proofs.Common.{length, get_or, ap, ◌∙◌, arith}
 use Rattle.std.proofs.lemmas.List.{take_all}
 use Rattle.track.specs.Runs.{idle}
 use Rattle.tape.specs.Tape.{numbered}
@@ -10,7 +10,7 @@ use Rattle.tape.proofs.write.runs_size.Goals.{then-run, else-run}
 
 pub loop-run-preserved : goal.loop-run-preserved
 loop-run-preserved c =
-    let i = c.loop-run.run_index in
+    let i = c.loop-run.run-index in
     let x = get_or c.args.runs.now i idle in
     let more = length_more run_bytes c.args.runs.now i idle c.loop-run-test.true in
     elim c.if-run.branch [
@@ -20,5 +20,5 @@ loop-run-preserved c =
 
 pub returns : goal.returns
 returns c =
-    let all = ap (λ z. length (numbered run_bytes 0 z)) (take_all c.loop-run.run_index c.args.runs.now (omega arith)) in
+    let all = ap (λ z. length (numbered run_bytes 0 z)) (take_all c.loop-run.run-index c.args.runs.now (omega arith)) in
     record { size = c.loop-run.invariant.0 ∙ all; fits = omega arith }

@@ -1,4 +1,4 @@
-use Rattle.std.proofs.Common.{◌≡◌, ◌+◌, ◌++◌, length, drop, sym, refl, ap, ◌∙◌, arith}
+use Rattle.std.proofs.Common.{◌≡◌, ◌++◌, length, drop, sym, ap, ◌∙◌, arith}
 use Rattle.track.specs.Calls.{map_of}
 use Rattle.tape.specs.Tape.{numbered, tape_of}
 use Rattle.tape.specs.Buffers.{run_bytes, name_bytes, put_at}
@@ -6,8 +6,8 @@ use Rattle.tape.proofs.Puts.{put_put, put_first}
 use Rattle.tape.proofs.Tapes.{tape_parts, tape_length, too_short, with_room, on_history}
 use Rattle.tape.proofs.write.write.Goals as goal
 
-pub returns-then-runs-size-names-size : goal.returns-then-runs-size-names-size
-returns-then-runs-size-names-size c =
+pub returns-then-runs_size-names_size : goal.returns-then-runs_size-names_size
+returns-then-runs_size-names_size c =
     let m = map_of c.args.rig.now.layout in
     let runs = ap (λ z. length (numbered run_bytes 0 z)) c.runs-runs.ensures.value in
     let names = ap (λ z. length (numbered name_bytes 0 z)) c.names-names.ensures.value in
@@ -27,8 +27,8 @@ returns c =
     let ln = ap length en in
     let len = tape_length m in
     let is : rs ++ ns ≡ tape_of m = ap (λ z. z ++ ns) er ∙ ap (λ z. numbered run_bytes 0 m.runs ++ z) en ∙ sym (tape_parts m) in
-    let put = put_put out 0 c.put-runs-at.result rs ns (omega arith) (omega arith) in
-    let left : c.put-names-end.new.out ≡ tape_of m ++ drop (length (tape_of m)) out =
-    c.put-names-end.ensures.left ∙ ap (λ z. put_at z c.put-runs-at.result ns) c.put-runs-at.ensures.left ∙ put ∙ put_first out (rs ++ ns) ∙ ap (λ z. z ++ drop (length z) out) is in
-    let done = with_room m out c.put-names-end.result c.put-names-end.new.out (omega arith) (omega arith) left in
+    let put = put_put out 0 c.put_runs-at.result rs ns (omega arith) (omega arith) in
+    let left : c.put_names-end.new.out ≡ tape_of m ++ drop (length (tape_of m)) out =
+    c.put_names-end.ensures.left ∙ ap (λ z. put_at z c.put_runs-at.result ns) c.put_runs-at.ensures.left ∙ put ∙ put_first out (rs ++ ns) ∙ ap (λ z. z ++ drop (length z) out) is in
+    let done = with_room m out c.put_names-end.result c.put_names-end.new.out (omega arith) (omega arith) left in
     record { done = done; law = on_history m _ _ _ done }
