@@ -1,5 +1,5 @@
 -- A walk that repeats no run meets no stop.
-use Rattle.std.proofs.Common.{◌≡◌, ℕ, suc, ◌+◌, ◌*◌, ◌<◌, ◌≤◌, min, Bool, true, false, cond, List, [], ◌∷◌, length, get_or, take, Some, None, Option, sym, refl, ap, ◌∙◌, subst, inl, inr, arith}
+use Rattle.std.proofs.Common.{◌≡◌, ℕ, suc, ◌+◌, ◌*◌, ◌<◌, ◌≤◌, min, Bool, true, false, cond, List, [], ◌∷◌, length, get_or, take, Some, None, Option, refl, ap, ◌∙◌, subst, inl, inr, arith}
 use Rattle.std.specs.List.{AllByRecursion as All}
 use Rattle.std.proofs.lemmas.Bool.{cases_lt, both_ways}
 use Rattle.std.proofs.lemmas.List.{get_or_past, get_or_default, get_or-take, length-take-le}
@@ -7,13 +7,12 @@ use Rattle.std.proofs.lemmas.Bool.Decides.{nat_tests}
 use Rattle.track.specs.Sizes.{most_runs, most_time}
 use Rattle.track.specs.Runs.{idle}
 use Rattle.track.specs.declared.run.Run.{Run}
-use Rattle.track.specs.declared.layout.Layout.{Layout}
 use Rattle.track.specs.Calls.{map_of}
 use Rattle.track.proofs.History.{left_is}
 use Rattle.walks.specs.Costs.{time_top, handover_top, change}
 use Rattle.walks.specs.Rules.{Rule, SoundRule}
-use Rattle.walks.specs.Walks.{not_laid, run_at, joint, penalty_of, differ, Walk, NoRepeat}
-use Rattle.walks.specs.Sums.{tenths, changes, most_tenths, Unstopped, NoStopOver, NoStopMet, NoStopAfterCalls}
+use Rattle.walks.specs.Walks.{not_laid, run_at, penalty_of, differ, Walk, NoRepeat}
+use Rattle.walks.specs.Sums.{tenths, changes, most_tenths, NoStopOver, NoStopMet, NoStopAfterCalls}
 use Rattle.walks.proofs.Few.{few}
 use Rattle.walks.proofs.Totals.{time_is_sum, handovers_are_sum}
 

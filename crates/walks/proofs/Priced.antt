@@ -6,7 +6,7 @@ use Rattle.walks.specs.Walks.{run_at, Walk}
 use Rattle.walks.specs.Moves.{follow_cost}
 use Rattle.walks.specs.Cheapest.{Task, price, last, LeadsTo, EndsWith}
 use Rattle.walks.specs.Prices.{Priced}
-use Rattle.walks.proofs.Net.{Net, Way, Onward}
+use Rattle.walks.proofs.Net.{Net, Onward}
 use Rattle.walks.proofs.Ways.{net, walk_way, way_walk, none_some}
 
 abbrev pub then : {A B : Type 0} → Option A → (A → Option B) → Option B

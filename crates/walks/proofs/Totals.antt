@@ -1,5 +1,5 @@
 -- The costs step by step are the sums over the whole walk.
-use Rattle.std.proofs.Common.{◌≡◌, ℕ, ◌+◌, ◌*◌, min, max, Bool, true, false, cond, List, [], ◌∷◌, sym, refl, ap, ◌∙◌, arith}
+use Rattle.std.proofs.Common.{◌≡◌, ℕ, ◌+◌, ◌*◌, min, max, Bool, true, false, cond, List, [], ◌∷◌, refl, ap, ◌∙◌, arith}
 use Rattle.track.specs.declared.run.Run.{Run}
 use Rattle.walks.specs.Rules.{Rule}
 use Rattle.walks.specs.Costs.{sum_kind, time_top, time_joint, strain_kind, handover_top, handover_joint, change}

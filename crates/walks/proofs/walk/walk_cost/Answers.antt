@@ -1,8 +1,8 @@
-use Rattle.std.proofs.Common.{◌≡◌, ℕ, ◌+◌, ◌-◌, List, [], length, get_or, take, drop, None, Option, sym, ap, ◌∙◌, arith, rules}
+use Rattle.std.proofs.Common.{◌≡◌, ◌+◌, ◌-◌, [], length, get_or, take, drop, None, Option, sym, ap, ◌∙◌, rules}
 use Rattle.std.proofs.lemmas.List.{at_drop_all, nil_from_length}
 use Rattle.track.specs.declared.run.Run.{Run}
 use Rattle.walks.specs.Moves.{begin_cost}
-use Rattle.walks.specs.Cheapest.{Task, task}
+use Rattle.walks.specs.Cheapest.{task}
 use Rattle.walks.proofs.Ways.{net}
 use Rattle.walks.proofs.Priced.{then, trace, trace_more, priced_there, priced_elsewhere, priced_nowhere}
 use Rattle.walks.proofs.walk.walk_cost.Goals as goal
@@ -31,7 +31,7 @@ loop-next-preserved g c =
     let i = c.loop-next.next-index in
     c.loop-next.invariant
     ∙ trace_more k rest i c.loop-next.last c.loop-next.cost _ _ _ c.loop-next-test.true c.run_at-in-loop-next.ensures c.run_at-in-loop-next-2.ensures c.follow.ensures
-    ∙ ap (λ (o : Option g.row.K-Cost.Denot). then o (λ b. trace (net k) (get_or rest i 0) b (drop (i + 1) rest))) c.in-ok-cost-2.was
+    ∙ ap (λ (o : Option g.row.K-Cost.Denot). then o (λ b. trace (net k) (get_or rest i 0) b (drop (i + 1) rest))) c.in_ok-cost-2.was
 
 pub returns-in_err-cost-2 : goal.returns-in_err-cost-2
 returns-in_err-cost-2 g c =
@@ -44,7 +44,7 @@ returns-in_err-cost-2 g c =
     ∙ trace_more k rest i c.loop-next.last c.loop-next.cost _ _ _ c.loop-next-test.true c.run_at-in-loop-next.ensures c.run_at-in-loop-next-2.ensures c.follow.ensures
     ∙ ap (λ (o : Option g.row.K-Cost.Denot). then o (λ b. trace (net k) (get_or rest i 0) b (drop (i + 1) rest))) stops
     in
-    rw c.from-residual-in-err-cost-2.ensures (priced_nowhere k c.args.mark c.args.walk.now (search rules) end)
+    rw c.from_residual-in_err-cost-2.ensures (priced_nowhere k c.args.mark c.args.walk.now (search rules) end)
 
 pub returns-then-run_at-mark : goal.returns-then-run_at-mark
 returns-then-run_at-mark g c =
