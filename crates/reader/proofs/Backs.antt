@@ -1,5 +1,5 @@
 -- A line in plain words is read back.
-use Rattle.std.proofs.Common.{◌≡◌, ℕ, ◌^◌, ◌<◌, ◌≤◌, Bool, true, false, cond, eqb, ◌≢◌, List, [], ◌∷◌, ◌++◌, length, Some, codes, decimal, Option, sym, refl, ap, ◌∙◌, append-nil, arith, rules}
+use Rattle.std.proofs.Common.{◌≡◌, ℕ, ◌^◌, ◌<◌, ◌≤◌, Bool, true, false, cond, eqb, ◌≢◌, List, [], ◌∷◌, ◌++◌, length, Some, codes, decimal, Option, sym, refl, ap, ◌∙◌, append-nil, arith, rules as lemmas}
 use Rattle.std.proofs.lemmas.Fmt.{digits_decimal, digits_value-decimal, decimal_nonempty}
 use Rattle.std.proofs.lemmas.List.{length-append}
 use Rattle.std.proofs.lemmas.Str.Parse.{IsNumeralModel, numerals_by_fold, tells_all_ascii_digits}
@@ -24,7 +24,7 @@ use Rattle.reader.specs.Words.{nothing, unreadable, calls, rules, asks, looks, s
 use Rattle.reader.specs.Plain.{spaced, call_line, setting_word, rule_line, SayableCall, SayableRuling, LineReadsBack}
 
 pub own : IsNumeralModel (λ ds. all_ascii_digits ds ≡ true) (value 0)
-own = numerals_by_fold _ tells_all_ascii_digits value (search rules)
+own = numerals_by_fold _ tells_all_ascii_digits value (search lemmas)
 
 -- digits are a word
 digit_no_space : (d : ℕ) → is_ascii_digit d ≡ true → eqb d 32 ≡ false

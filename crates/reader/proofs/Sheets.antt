@@ -1,5 +1,5 @@
 -- A sheet in plain words is read back, line by line.
-use Rattle.std.proofs.Common.{◌≡◌, ℕ, ◌^◌, ◌<◌, Bool, true, false, ◌≢◌, List, [], ◌∷◌, ◌++◌, map, codes, decimal, sym, refl, ap, ◌∙◌, append_assoc, arith, rules}
+use Rattle.std.proofs.Common.{◌≡◌, ℕ, ◌^◌, ◌<◌, Bool, true, false, ◌≢◌, List, [], ◌∷◌, ◌++◌, map, codes, decimal, sym, refl, ap, ◌∙◌, append_assoc, arith, rules as lemmas}
 use Rattle.std.proofs.lemmas.Fmt.{digits_decimal}
 use Rattle.std.proofs.ByRecursion.{All-append}
 use Rattle.std.proofs.lemmas.Bool.{and_parts, false≢true}
@@ -12,7 +12,6 @@ use Rattle.tape.specs.declared.command.RuleName.TheVariants.{Flat, Point, Pair}
 use Rattle.tape.specs.Letters.{kind_letter}
 use Rattle.track.specs.Map.{Call}
 use Rattle.track.specs.Map.Call.{Lay, Strike, Retime, Name, Open, Close, Write, Survey, Route}
-use Rattle.walks.specs.Rules.{barred}
 use Rattle.reader.proofs.Feeds.{NoFeed, lines_more}
 use Rattle.reader.specs.declared.rulings.Ruling.{Ruling}
 use Rattle.reader.specs.declared.rulings.Ruling.TheVariants.{Choose, SetFlat, SetPoint, SetPair}
@@ -39,7 +38,7 @@ number_no_feed : (n : ℕ) (rest : List ℕ) → n < 2 ^ 16 → NoFeed rest → 
 number_no_feed n rest fits k = All-append _ (decimal n) rest (decimal_no_feed n (omega arith)) k
 
 setting_no_feed : (bars : Bool) (s : ℕ) (rest : List ℕ) → s < 2 ^ 16 → NoFeed rest → NoFeed (setting_by bars s ++ rest)
-setting_no_feed true s rest fits k = All-append _ (codes "barred") rest (search rules) k
+setting_no_feed true s rest fits k = All-append _ (codes "barred") rest (search lemmas) k
 setting_no_feed false s rest fits k = number_no_feed s rest fits k
 
 letter_no_feed : (kind : KindName) → kind_letter kind ≢ 10
@@ -48,10 +47,10 @@ letter_no_feed Strain e = omega arith
 letter_no_feed HandOvers e = omega arith
 
 call_no_feed : (c : Call) → SayableCall c → NoFeed (call_line c)
-call_no_feed (Lay tail head winch time strain) h = search (rules, number_no_feed)
-call_no_feed (Strike run) h = search (rules, number_no_feed)
-call_no_feed (Retime run time) h = search (rules, number_no_feed)
-call_no_feed (Name point text) h = search (rules, number_no_feed, word_no_feed text)
+call_no_feed (Lay tail head winch time strain) h = search (lemmas, number_no_feed)
+call_no_feed (Strike run) h = search (lemmas, number_no_feed)
+call_no_feed (Retime run time) h = search (lemmas, number_no_feed)
+call_no_feed (Name point text) h = search (lemmas, number_no_feed, word_no_feed text)
 call_no_feed Open h = absurd h
 call_no_feed Close h = absurd h
 call_no_feed Write h = absurd h
@@ -59,20 +58,20 @@ call_no_feed Survey h = absurd h
 call_no_feed Route h = absurd h
 
 ruling_no_feed : (r : Ruling) → SayableRuling r → NoFeed (rule_line r)
-ruling_no_feed (Choose Flat) h = search rules
-ruling_no_feed (Choose Point) h = search rules
-ruling_no_feed (Choose Pair) h = search rules
-ruling_no_feed (SetFlat s) h = search (rules, setting_no_feed)
-ruling_no_feed (SetPoint point s) h = search (rules, number_no_feed, setting_no_feed)
-ruling_no_feed (SetPair arriving leaving s) h = search (rules, number_no_feed, setting_no_feed)
+ruling_no_feed (Choose Flat) h = search lemmas
+ruling_no_feed (Choose Point) h = search lemmas
+ruling_no_feed (Choose Pair) h = search lemmas
+ruling_no_feed (SetFlat s) h = search (lemmas, setting_no_feed)
+ruling_no_feed (SetPoint point s) h = search (lemmas, number_no_feed, setting_no_feed)
+ruling_no_feed (SetPair arriving leaving s) h = search (lemmas, number_no_feed, setting_no_feed)
 
 said_no_feed : (s : Said) → Sayable s → NoFeed (line_of s)
 said_no_feed nothing h = tt
 said_no_feed unreadable h = absurd h
 said_no_feed (calls c) h = call_no_feed c h
 said_no_feed (rules r) h = ruling_no_feed r h
-said_no_feed (asks q) h = search (rules, number_no_feed, letter_no_feed)
-said_no_feed (looks l) h = search (rules, number_no_feed, letter_no_feed)
+said_no_feed (asks q) h = search (lemmas, number_no_feed, letter_no_feed)
+said_no_feed (looks l) h = search (lemmas, number_no_feed, letter_no_feed)
 
 pub sheet_reads_back : SheetReadsBack
 sheet_reads_back [] h = refl

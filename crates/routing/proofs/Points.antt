@@ -5,8 +5,8 @@ use Rattle.std.proofs.lemmas.Bool.{cases_lt, cases_eq, both_ways}
 use Rattle.track.specs.declared.run.Run.{Run}
 use Rattle.walks.specs.Kinds.{Kind, Lawful, Le, Fits}
 use Rattle.walks.specs.Rules.{Rule}
-use Rattle.walks.specs.Walks.{not_laid, run_at, Walk, joint, penalty_of, differ, along, onward, cost, NoRepeat}
-use Rattle.walks.specs.Cheapest.{Task, price, last, LeadsTo, EndsWith, NoWalk, AtLeast, Cheapest}
+use Rattle.walks.specs.Walks.{not_laid, run_at, Walk, joint, penalty_of, differ, along, onward, cost}
+use Rattle.walks.specs.Cheapest.{Task, last, LeadsTo, EndsWith, NoWalk, AtLeast, Cheapest}
 use Rattle.routing.specs.declared.place.Place.{Place}
 use Rattle.routing.specs.declared.place.Place.TheVariants.{Absent, Reached}
 use Rattle.routing.specs.Tables.{place, TablePlace, TableHolds, BoardPlace}

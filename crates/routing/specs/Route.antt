@@ -1,5 +1,5 @@
 -- What a route over a map answers and leaves.
-use Rattle.std.specs.Prelude.{◌≡◌, ℕ, Bool, List, [], ◌∷◌, ◌++◌, length, drop, nat_le, nat_lt}
+use Rattle.std.specs.Prelude.{◌≡◌, ℕ, List, [], ◌∷◌, ◌++◌, length, drop, nat_le, nat_lt}
 use Rattle.track.specs.Sizes.{points}
 use Rattle.track.specs.Answers.{Answer, gave, refused, check, unless}
 use Rattle.track.specs.Map.{Map}

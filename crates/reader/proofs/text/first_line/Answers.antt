@@ -3,8 +3,8 @@ use Rattle.std.proofs.lemmas.List.{nil_from_length}
 use Rattle.reader.proofs.Feeds.{clear_more, cut_at, cut_none}
 use Rattle.reader.proofs.text.first_line.Goals as goal
 
-pub returns-then-is-empty : goal.returns-then-is-empty
-returns-then-is-empty c = nil_from_length _ (search rules)
+pub returns-then-is_empty : goal.returns-then-is_empty
+returns-then-is_empty c = nil_from_length _ (search rules)
 
 pub loop-i-preserved : goal.loop-i-preserved
 loop-i-preserved c = search (rules, clear_more)

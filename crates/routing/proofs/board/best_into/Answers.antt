@@ -4,7 +4,6 @@ use Rattle.track.specs.declared.run.Run.{Run}
 use Rattle.track.specs.Runs.{idle}
 use Rattle.walks.specs.Walks.{not_laid}
 use Rattle.routing.specs.declared.place.Place.TheVariants.{Absent}
-use Rattle.routing.specs.Tables.{place}
 use Rattle.routing.specs.Offers.{BestInto}
 use Rattle.routing.proofs.Offers.{best_past, best_more}
 use Rattle.routing.proofs.board.best_into.Goals as goal

@@ -5,4 +5,4 @@ use Rattle.routing.proofs.board.fill_board.Goals as goal
 
 pub returns : goal.returns
 returns g c t holds =
-    board_holds (task (g.K.CostKind.meaning c.args.kind.now) t c.args.runs.now c.args.home) (g.met.K.CostKind.lawful c.args.kind.now) c.args.table.now c.offer-runs.new.board c.start.result _ holds (omega arith) c.start.ensures (λ v lt. c.offer-runs.ensures v (omega arith))
+    board_holds (task (g.K.CostKind.meaning c.args.kind.now) t c.args.runs.now c.args.home) (g.met.K.CostKind.lawful c.args.kind.now) c.args.table.now c.offer_runs.new.board c.start.result _ holds (omega arith) c.start.ensures (λ v lt. c.offer_runs.ensures v (omega arith))

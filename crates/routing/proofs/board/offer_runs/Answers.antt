@@ -6,12 +6,11 @@ use Rattle.walks.specs.Walks.{not_laid}
 use Rattle.routing.specs.declared.place.Place.TheVariants.{Absent}
 use Rattle.routing.specs.Tables.{place}
 use Rattle.routing.specs.Offers.{BestInto}
-use Rattle.routing.proofs.Offers.{best_none, board_more}
-use Rattle.routing.proofs.board.offer_runs.Given as given
+use Rattle.routing.proofs.Offers.{board_more}
 use Rattle.routing.proofs.board.offer_runs.Goals as goal
 
-pub offset-bounds-board-head : goal.offset-bounds-board-head
-offset-bounds-board-head g c = let within : (get_or c.args.runs.now c.loop-run.run idle).head < length c.args.board.now = c.requires.heads c.loop-run.run c.loop-run-test.true in search rules
+pub offset_bounds-board-head : goal.offset_bounds-board-head
+offset_bounds-board-head g c = let within : (get_or c.args.runs.now c.loop-run.run idle).head < length c.args.board.now = c.requires.heads c.loop-run.run c.loop-run-test.true in search rules
 
 pub bounds-board-head : goal.bounds-board-head
 bounds-board-head g c = omega (arith, c.requires.heads c.loop-run.run c.loop-run-test.true)

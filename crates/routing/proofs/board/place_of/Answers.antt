@@ -8,4 +8,4 @@ returns-then-point-home g c t holds =
 
 pub returns-else-point-home : goal.returns-else-point-home
 returns-else-point-home g c t holds =
-    best_place (task (g.K.CostKind.meaning c.args.kind.now) t c.args.runs.now c.args.home) (g.met.K.CostKind.lawful c.args.kind.now) c.args.table.now holds c.args.point c.if-point-home.false c.best-into.result c.best-into.ensures
+    best_place (task (g.K.CostKind.meaning c.args.kind.now) t c.args.runs.now c.args.home) (g.met.K.CostKind.lawful c.args.kind.now) c.args.table.now holds c.args.point c.if-point-home.false c.best_into.result c.best_into.ensures

@@ -7,8 +7,8 @@ use Rattle.routing.proofs.follow.count_back.Goals as goal
 pub loop-run-init : goal.loop-run-init
 loop-run-init g c = (omega arith, search rules, λ w chain. stands_end c.args.table.now c.args.end w chain)
 
-pub run-before-requires : goal.run-before-requires
-run-before-requires g c =
+pub run_before-requires : goal.run_before-requires
+run_before-requires g c =
     let w = c.requires.0 in
     let chain = c.requires.1 in
     stands_in c.args.table.now c.args.end w chain c.loop-run.at c.loop-run.count c.loop-run.invariant.0 (c.loop-run.invariant.2 w chain)
@@ -24,8 +24,8 @@ within g c =
     let most = short c.args.table.now c.args.end c.requires.0 c.requires.1 in
     omega (arith, here.rest)
 
-pub overflow-add-count : goal.overflow-add-count
-overflow-add-count g c = let most = within g c in search rules
+pub overflow_add-count : goal.overflow_add-count
+overflow_add-count g c = let most = within g c in search rules
 
 pub loop-run-smaller : goal.loop-run-smaller
 loop-run-smaller g c = omega (arith, within g c)
@@ -34,4 +34,4 @@ pub loop-run-preserved : goal.loop-run-preserved
 loop-run-preserved g c = (omega arith, search rules, back g c)
 
 pub returns : goal.returns
-returns g c w chain = stands_first c.args.table.now c.args.end w chain c.loop-run.at c.loop-run.count c.loop-run.invariant.0 (c.loop-run.invariant.2 w chain) c.in-default.ensures
+returns g c w chain = stands_first c.args.table.now c.args.end w chain c.loop-run.at c.loop-run.count c.loop-run.invariant.0 (c.loop-run.invariant.2 w chain) c.in_default.ensures

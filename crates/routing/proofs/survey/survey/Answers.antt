@@ -8,18 +8,18 @@ use Rattle.routing.specs.Offers.{HeadsBelow}
 use Rattle.routing.proofs.Promises.{heads_below, survey_clear, survey_promise, survey_refused, surveyed}
 use Rattle.routing.proofs.survey.survey.Goals as goal
 
-pub returns-in-err-check-survey : goal.returns-in-err-check-survey
-returns-in-err-check-survey g c =
+pub returns-in_err-check_survey : goal.returns-in_err-check_survey
+returns-in_err-check_survey g c =
     let k = g.K.CostKind.meaning c.args.kind.now in
     let t = g.R.HandoverRule.table c.args.rule.now in
     let m = map_of c.args.rig.now.layout in
-    let p = err_from_is_err_and c.from-residual.result c.from-residual.ensures.1 in
+    let p = err_from_is_err_and c.from_residual.result c.from_residual.ensures.1 in
     rw (p.1, p.2)
-    (survey_promise k t c.args.home m c.args.table.now c.args.board.now _ _ _ (survey_refused k t c.args.home m c.args.table.now c.args.board.now _ c.in-err-check-survey.ensures))
+    (survey_promise k t c.args.home m c.args.table.now c.args.board.now _ _ _ (survey_refused k t c.args.home m c.args.table.now c.args.board.now _ c.in_err-check_survey.ensures))
 
-pub survey-runs-requires : goal.survey-runs-requires
-survey-runs-requires g c =
-    let clear = survey_clear (map_of c.args.rig.now.layout) c.args.home (length c.args.table.now) (length c.args.board.now) c.in-ok-check-survey.ensures in
+pub survey_runs-requires : goal.survey_runs-requires
+survey_runs-requires g c =
+    let clear = survey_clear (map_of c.args.rig.now.layout) c.args.home (length c.args.table.now) (length c.args.board.now) c.in_ok-check_survey.ensures in
     let same = ap length c.runs-runs.ensures.value in
     record {
       laid = (simp length-take (omega arith), c.runs-runs.ensures.bound);
@@ -35,10 +35,10 @@ returns g c =
     let runs = c.runs-runs.result.now in
     let table = c.args.table.now in
     let board = c.args.board.now in
-    let answer = c.in-ok-check-survey.ensures in
+    let answer = c.in_ok-check_survey.ensures in
     let clear = survey_clear m c.args.home (length table) (length board) answer in
     let same = ap length c.runs-runs.ensures.value in
     survey_promise k t c.args.home m table board _ _ _
-    (surveyed k t c.args.home m table runs c.runs-runs.ensures.value c.survey-runs.new.table _ board c.survey-runs.new.board _ answer
-    (omega (arith, c.survey-runs.auto.table, length-take (length runs - 0) table)) (Post-is 0 (length runs) table (omega arith)) c.survey-runs.ensures.runs-hold
-    (omega (arith, c.survey-runs.auto.board, length-take points board)) (Post-is 0 points board (omega arith)) c.survey-runs.ensures.points-hold)
+    (surveyed k t c.args.home m table runs c.runs-runs.ensures.value c.survey_runs.new.table _ board c.survey_runs.new.board _ answer
+    (omega (arith, c.survey_runs.auto.table, length-take (length runs - 0) table)) (Post-is 0 (length runs) table (omega arith)) c.survey_runs.ensures.runs_hold
+    (omega (arith, c.survey_runs.auto.board, length-take points board)) (Post-is 0 points board (omega arith)) c.survey_runs.ensures.points_hold)
