@@ -9,4 +9,4 @@ loop-v-preserved c =
     below_more _ _
     (λ k h. let ne : k ≢ c.loop-v.v = omega arith in rw get_or-set_other (c.loop-v.invariant k h))
     (let lt : c.loop-v.v < length c.loop-v.row = omega arith in
-    rw get_or-set_same (c.cost-of.ensures ∙ ap cost_number (get_or_default c.args.board.now c.loop-v.v _ Absent c.loop-v-test.true)))
+    rw get_or-set_same (c.cost_of.ensures ∙ ap cost_number (get_or_default c.args.board.now c.loop-v.v _ Absent c.loop-v-test.true)))

@@ -11,7 +11,7 @@ loop-run-init c = c.new-rig.ensures.law
 
 pub loop-run-preserved : goal.loop-run-preserved
 loop-run-preserved c =
-    subst (λ (calls : List Call). LeftBy calls (map_of c.lay.new.self.layout)) (sym (map_more lay_of c.args.runs.now c.loop-run.run_index _ c.loop-run-test.true))
+    subst (λ (calls : List Call). LeftBy calls (map_of c.lay.new.self.layout)) (sym (map_more lay_of c.args.runs.now c.loop-run.run-index _ c.loop-run-test.true))
     (c.lay.ensures.law _ c.loop-run.invariant)
 
 pub returns : goal.returns

@@ -9,5 +9,5 @@ use Rattle.company.proofs.worn.wear_without.Goals as goal
 -- the setting is 0, and the runs are those of the rig's map
 pub returns : goal.returns
 returns c =
-    subst (λ (m : List Run). Priced (task wear_kind (isolated (flat_rule 0) c.args.winch) m c.args.home) c.args.mark c.args.walk.now c.walk-cost.result) c.runs.ensures.value
-    (subst (λ (s : ℕ). Priced (task wear_kind (isolated (flat_rule s) c.args.winch) c.runs.result.now c.args.home) c.args.mark c.args.walk.now c.walk-cost.result) c.new.ensures c.walk-cost.ensures)
+    subst (λ (m : List Run). Priced (task wear_kind (isolated (flat_rule 0) c.args.winch) m c.args.home) c.args.mark c.args.walk.now c.walk_cost.result) c.runs.ensures.value
+    (subst (λ (s : ℕ). Priced (task wear_kind (isolated (flat_rule s) c.args.winch) c.runs.result.now c.args.home) c.args.mark c.args.walk.now c.walk_cost.result) c.new.ensures c.walk_cost.ensures)

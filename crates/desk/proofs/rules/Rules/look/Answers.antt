@@ -20,5 +20,5 @@ returns-in-ok-survey-by-2 c =
 
 pub returns-in-HandOvers : goal.returns-in-HandOvers
 returns-in-HandOvers c =
-    looked (desk_of (map_of c.args.show.now.layout) c.args.self.now) c.args.kind HandOvers c.args.home (replicate 256 Absent) c.args.board.now (told number c.survey-by-in-HandOvers.result) c.survey-by-in-HandOvers.new.table c.survey-by-in-HandOvers.new.board
-    c.in-HandOvers.is refl (search rules) (search rules) c.survey-by-in-HandOvers.ensures
+    looked (desk_of (map_of c.args.show.now.layout) c.args.self.now) c.args.kind HandOvers c.args.home (replicate 256 Absent) c.args.board.now (told number c.survey_by-in-HandOvers.result) c.survey_by-in-HandOvers.new.table c.survey_by-in-HandOvers.new.board
+    c.in-HandOvers.is refl (search rules) (search rules) c.survey_by-in-HandOvers.ensures
