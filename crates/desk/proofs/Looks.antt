@@ -1,5 +1,5 @@
 -- From a survey's promise on its table and board to the board that a desk leaves.
-use Rattle.std.proofs.Common.{◌≡◌, ℕ, ◌+◌, ◌<◌, ◌≤◌, ◌≢◌, List, length, get_or, take, set, Option, sym, refl, ap, ◌∙◌, subst, arith, below_more}
+use Rattle.std.proofs.Common.{◌≡◌, ℕ, ◌+◌, ◌<◌, ◌≤◌, ◌≢◌, List, length, get_or, take, set, sym, refl, ap, ◌∙◌, subst, arith, below_more}
 use Rattle.std.proofs.lemmas.List.{take_all, get_or_read, get_or-set_same, get_or-set_other}
 use Rattle.track.specs.Sizes.{points, most_runs}
 use Rattle.track.specs.Answers.{Answer, gave, refused}

@@ -1,7 +1,7 @@
 -- What a question that is put to a desk answers, and what it leaves in the list of runs.
 use Rattle.std.specs.Prelude.{◌≡◌, ℕ, List, Ok, Err, Result}
 use Rattle.track.specs.Sizes.{most_runs}
-use Rattle.track.specs.Answers.{Answer, gave, refused, told}
+use Rattle.track.specs.Answers.{Answer, gave, refused}
 use Rattle.track.specs.Map.{Map}
 use Rattle.walks.specs.Cheapest.{Task}
 use Rattle.routing.specs.declared.refusal.SearchRefusal.{SearchRefusal}

@@ -1,5 +1,5 @@
 -- What a survey that is put to a desk answers, and what it leaves on the board.
-use Rattle.std.specs.Prelude.{◌≡◌, ℕ, List, Option}
+use Rattle.std.specs.Prelude.{◌≡◌, ℕ, List}
 use Rattle.track.specs.Sizes.{points, most_runs}
 use Rattle.track.specs.Answers.{Answer, gave, refused}
 use Rattle.walks.specs.Cheapest.{Task}

@@ -1,5 +1,5 @@
 -- Whole lists of calls: each outcome is right.
-use mathlib.Core.Path.{◌≡◌, refl, sym, ap, subst, ◌∙◌}
+use mathlib.Core.Path.{◌≡◌, sym, ap, subst, ◌∙◌}
 use mathlib.Core.List.{List, [], ◌∷◌, ◌++◌}
 use Rattle.track.specs.Map.{Map, after, blank}
 use Rattle.track.specs.Calls.{afters, map_after}

@@ -1,6 +1,5 @@
 -- Numbers and lines written into a buffer.
 use Rattle.std.proofs.Common.{◌≡◌, ℕ, ◌+◌, ◌/◌, ◌%◌, ◌^◌, ◌<◌, ◌≤◌, Bool, cond, leb, List, [], ◌∷◌, ◌++◌, length, get_or, take, drop, set, Some, None, codes, decimal, sym, refl, ap, ◌∙◌, add-one, arith}
-use lib.Seq.{paste}
 use Rattle.std.specs.List.{flat_map}
 use Rattle.std.proofs.lemmas.List.{append_assoc, append-nil, length-append, take-append-drop, take_more, set_split}
 use Rattle.std.proofs.lemmas.List.Edits.{paste_all, length-paste}

@@ -1,11 +1,10 @@
 -- What a route's answer says of the reply to a question.
-use Rattle.std.proofs.Common.{◌≡◌, ℕ, ◌≤◌, Bool, true, false, cond, leb, List, [], ◌∷◌, ◌++◌, length, take, drop, Some, None, Ok, Err, sym, refl, ap, ◌∙◌, arith}
+use Rattle.std.proofs.Common.{◌≡◌, ℕ, ◌≤◌, Bool, true, false, cond, leb, List, length, take, drop, Some, None, Ok, Err, sym, refl, ap, ◌∙◌, arith}
 use Rattle.std.specs.Option.{ok_or}
 use Rattle.std.proofs.lemmas.List.{length-append, take_at}
 use Rattle.track.specs.Answers.{Answer, gave, refused}
 use Rattle.walks.specs.Cheapest.{Task}
 use Rattle.tape.specs.declared.command.KindName.{KindName}
-use Rattle.player.specs.declared.fault.Layer.{Layer}
 use Rattle.player.specs.declared.fault.Layer.TheVariants.{Listing}
 use Rattle.player.specs.declared.fault.ListingCause.TheVariants.{NoRoom}
 use Rattle.player.specs.Faults.{in_search, in_listing}

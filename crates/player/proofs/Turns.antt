@@ -1,8 +1,8 @@
 -- One turn of the loop of play, and what the loop keeps.
-use Rattle.std.proofs.Common.{◌≡◌, ℕ, zero, suc, ◌+◌, ◌-◌, ◌<◌, ◌≤◌, Bool, true, false, cond, leb, List, [], ◌∷◌, ◌++◌, length, take, drop, Ok, Err, Option, Result, sym, refl, ap, ◌∙◌, subst, arith}
+use Rattle.std.proofs.Common.{◌≡◌, ℕ, zero, suc, ◌+◌, ◌-◌, ◌<◌, ◌≤◌, Bool, true, false, cond, leb, List, [], ◌∷◌, ◌++◌, length, take, drop, Ok, Err, Option, sym, refl, ap, ◌∙◌, subst, arith}
 use borrow.Rule.Slice.PartMut.{put_mid}
 use Rattle.std.proofs.lemmas.List.{append-nil, append_assoc, length-append, length-drop, length-take-le, take-append-drop, take_at, drop_at, drop-drop, drop_all}
-use Rattle.std.proofs.lemmas.Bool.{le-leb, lt-leb, leb-true, leb-false}
+use Rattle.std.proofs.lemmas.Bool.{leb-true, leb-false}
 use Rattle.track.specs.Map.{Map}
 use Rattle.tape.specs.Commands.{Said}
 use Rattle.tape.specs.Reading.{Read, decode}
@@ -10,11 +10,10 @@ use Rattle.tape.specs.Refusals.{cause_number}
 use Rattle.player.specs.declared.fault.Layer.{Layer}
 use Rattle.player.specs.declared.play.Turn.{Turn}
 use Rattle.player.specs.Faults.{LayerName, ToldFault, in_tape, in_listing, layer_number, layer_name}
-use Rattle.player.specs.Lines.{Reply, line_of}
+use Rattle.player.specs.Lines.{line_of}
 use Rattle.player.specs.Writing.{line_left}
 use Rattle.player.specs.Play.{Desk, new_desk, Step, done, failed, asked, step, Item, items, Outcome, ends, faults, behind, played, PlayDone}
-use Rattle.player.specs.Obeying.{ToldTurn, line_told, Obeyed, told_written, Turned}
-use Rattle.player.proofs.Fields.{fits, lacks}
+use Rattle.player.specs.Obeying.{ToldTurn, line_told, Obeyed, Turned}
 use Rattle.player.proofs.Outcomes.{May, may_end, may_unread, may_done, may_fail, may_ask, may_lack, items_read, items_front, items_unread}
 
 -- a line that was written, and one that was not

@@ -1,5 +1,5 @@
 -- A line of the listing.
-use Rattle.std.specs.Prelude.{ℕ, List, [], ◌∷◌, ◌++◌, map, length, Some, None, codes, decimal, Option}
+use Rattle.std.specs.Prelude.{ℕ, List, [], ◌∷◌, ◌++◌, length, Some, None, codes, decimal, Option}
 use Rattle.std.specs.List.{flat_map}
 use Rattle.tape.specs.declared.command.KindName.{KindName}
 use Rattle.tape.specs.Letters.{kind_letter}

@@ -1,7 +1,7 @@
 -- `calls_stand` meets its contract. The clause is a fact of Type 1, which the borrow checker does not read, so it is read here, by its proof; the body is as it is everywhere.
 -- Assumes nothing.
 use mathlib.Core.Path.{◌≡◌, refl}
-use mathlib.Core.List.{List, []}
+use mathlib.Core.List.{[]}
 use base.Logic.{sep, emp, via, fst∗, emp∗, comm∗}
 use contract.Fact.{fact_i}
 use contract.Monad.{fact, top}

@@ -1,4 +1,4 @@
-use mathlib.Core.Path.{◌≡◌, refl, subst}
+use mathlib.Core.Path.{refl, subst}
 use Rattle.track.specs.declared.layout.Layout.{Layout}
 use Rattle.track.specs.Answers.{told}
 use Rattle.track.specs.Refusals.{number}

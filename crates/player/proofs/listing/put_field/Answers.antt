@@ -2,8 +2,8 @@ use Rattle.std.proofs.Common.{arith, length-set}
 use Rattle.player.proofs.Fields.{put_space}
 use Rattle.player.proofs.listing.put_field.Goals as goal
 
-pub put-number-requires : goal.put-number-requires
-put-number-requires c = simp length-set (omega arith)
+pub put_number-requires : goal.put_number-requires
+put_number-requires c = simp length-set (omega arith)
 
 pub returns : goal.returns
 returns c =

@@ -15,17 +15,17 @@ returns-then-size-out c =
     let a = left_out (route_line c.args.kind c.args.home c.args.mark c.args.cost c.args.runs.now) c.args.out.now (omega arith) in
     record { value = a.0; after = a.1 }
 
-pub put-heading-at-requires : goal.put-heading-at-requires
-put-heading-at-requires c = let h = length_heading c.args.kind c.args.home c.args.mark in omega arith
+pub put_heading-at-requires : goal.put_heading-at-requires
+put_heading-at-requires c = let h = length_heading c.args.kind c.args.home c.args.mark in omega arith
 
-pub put-field-at-requires : goal.put-field-at-requires
-put-field-at-requires c = let h = length_heading c.args.kind c.args.home c.args.mark in omega arith
+pub put_field-at-requires : goal.put_field-at-requires
+put_field-at-requires c = let h = length_heading c.args.kind c.args.home c.args.mark in omega arith
 
-pub put-field-at-requires-2 : goal.put-field-at-requires-2
-put-field-at-requires-2 c = let h = length_heading c.args.kind c.args.home c.args.mark in omega arith
+pub put_field-at-requires-2 : goal.put_field-at-requires-2
+put_field-at-requires-2 c = let h = length_heading c.args.kind c.args.home c.args.mark in omega arith
 
-pub put-runs-at-requires : goal.put-runs-at-requires
-put-runs-at-requires c = let h = length_heading c.args.kind c.args.home c.args.mark in omega arith
+pub put_runs-at-requires : goal.put_runs-at-requires
+put_runs-at-requires c = let h = length_heading c.args.kind c.args.home c.args.mark in omega arith
 
 pub bounds-out-at : goal.bounds-out-at
 bounds-out-at c = let h = length_heading c.args.kind c.args.home c.args.mark in omega arith
@@ -44,10 +44,10 @@ returns c =
     let ls = length-append r (flat_map field c.args.runs.now) in
     let l = length_route c.args.kind c.args.home c.args.mark c.args.cost c.args.runs.now in
     let parts = route_parts c.args.kind c.args.home c.args.mark c.args.cost c.args.runs.now in
-    let one = put_put was 0 c.put-heading-at.result p (field c.args.cost) (omega arith) (omega arith) in
-    let two = put_put was 0 c.put-field-at.result q (field (length c.args.runs.now)) (omega arith) (omega arith) in
-    let three = put_put was 0 c.put-field-at-2.result r (flat_map field c.args.runs.now) (omega arith) (omega arith) in
-    let end = put_next was 0 c.put-runs-at.result s 10 (omega arith) (omega arith) in
-    let w : set c.put-runs-at.new.out c.put-runs-at.result 10 ≡ put_at was 0 line = cc in
-    let a = set_down line was (set c.put-runs-at.new.out c.put-runs-at.result 10) _ (omega arith) (omega arith) w in
+    let one = put_put was 0 c.put_heading-at.result p (field c.args.cost) (omega arith) (omega arith) in
+    let two = put_put was 0 c.put_field-at.result q (field (length c.args.runs.now)) (omega arith) (omega arith) in
+    let three = put_put was 0 c.put_field-at-2.result r (flat_map field c.args.runs.now) (omega arith) (omega arith) in
+    let end = put_next was 0 c.put_runs-at.result s 10 (omega arith) (omega arith) in
+    let w : set c.put_runs-at.new.out c.put_runs-at.result 10 ≡ put_at was 0 line = cc in
+    let a = set_down line was (set c.put_runs-at.new.out c.put_runs-at.result 10) _ (omega arith) (omega arith) w in
     record { value = a.0; after = a.1 }

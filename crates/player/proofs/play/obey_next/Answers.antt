@@ -9,16 +9,16 @@ use Rattle.player.proofs.play.obey_next.Goals as goal
 pub returns : goal.returns
 returns c =
     let d = desk_of c.args.desk.now in
-    let read = c.in-ok-command.ensures in
-    let obeyed = c.in-ok-written.ensures in
+    let read = c.in_ok-command.ensures in
+    let obeyed = c.in_ok-written.ensures in
     record {
       turned =
           subst
-          (λ (x : Read). Turned x d c.args.rest.now (Ok (record { read = c.in-ok-command.read; written = c.in-ok-written.written })) (desk_of c.obey.new.self) c.obey.new.rest)
+          (λ (x : Read). Turned x d c.args.rest.now (Ok (record { read = c.in_ok-command.read; written = c.in_ok-written.written })) (desk_of c.obey.new.self) c.obey.new.rest)
           read.value (obeyed, refl);
       within = (
         read.within.0,
         read.within.1,
-        written_within (step d (said c.in-ok-command.command)) d c.args.rest.now c.in-ok-written.written (desk_of c.obey.new.self) c.obey.new.rest obeyed,
+        written_within (step d (said c.in_ok-command.command)) d c.args.rest.now c.in_ok-written.written (desk_of c.obey.new.self) c.obey.new.rest obeyed,
       );
     }

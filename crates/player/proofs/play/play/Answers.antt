@@ -1,5 +1,4 @@
-use Rattle.std.proofs.Common.{◌≡◌, ℕ, ◌+◌, ◌-◌, ◌<◌, List, length, take, drop, Some, None, sym, refl, ap, ◌∙◌, subst, arith, rules}
-use borrow.Rule.Slice.PartMut.{put_mid}
+use Rattle.std.proofs.Common.{ℕ, ◌-◌, ◌<◌, List, length, take, drop, Some, sym, refl, ap, ◌∙◌, subst, arith, rules}
 use Rattle.std.proofs.lemmas.List.{places}
 use Rattle.std.proofs.lemmas.Slice.{between_to_end}
 use Rattle.track.specs.Calls.{map_of}
@@ -22,7 +21,7 @@ loop-at-preserved c =
     let w = c.in-Ok.ensures in
     goes_on c.args.tape.now c.args.listing.now c.loop-at.at c.loop-at.len (desk_of c.loop-at.desk) c.loop-at.listing _ _ c.loop-at.invariant
     (handed c.args.tape.now c.loop-at.listing c.loop-at.at c.loop-at.len c.loop-at-test.true)
-    (desk_of c.obey-next.new.desk) c.obey-next.new.rest c.in-Ok.turn
+    (desk_of c.obey_next.new.desk) c.obey_next.new.rest c.in-Ok.turn
     w.turned w.within.0 w.within.1 w.within.2 (search (rules, places))
 
 pub returns-in-Err : goal.returns-in-Err
@@ -35,13 +34,13 @@ returns-in-Err c =
     let h =
     halts tape was c.loop-at.at c.loop-at.len d l _ _ c.loop-at.invariant
     (handed tape l c.loop-at.at c.loop-at.len c.loop-at-test.true)
-    (desk_of c.obey-next.new.desk) c.obey-next.new.rest layer c.in-Err.ensures.turned in
-    subst (λ (z : List ℕ). PlayDone tape was (map_of c.into-rig.result.layout) c.loop-at.len (Some (record { number = layer_number layer; place = c.loop-at.at; layer = layer_name layer })) z) (sym h.2)
+    (desk_of c.obey_next.new.desk) c.obey_next.new.rest layer c.in-Err.ensures.turned in
+    subst (λ (z : List ℕ). PlayDone tape was (map_of c.into_rig.result.layout) c.loop-at.len (Some (record { number = layer_number layer; place = c.loop-at.at; layer = layer_name layer })) z) (sym h.2)
     (promised tape was c.loop-at.len l (faults d (layer_number layer) c.loop-at.at (layer_name layer)) _ _ c.loop-at.invariant.room c.loop-at.invariant.back refl
-    (c.into-rig.ensures ∙ ap (λ (x : Desk). x.map) h.1) refl h.0)
+    (c.into_rig.ensures ∙ ap (λ (x : Desk). x.map) h.1) refl h.0)
 
 pub returns : goal.returns
 returns c =
     let h = ends_so c.args.tape.now c.args.listing.now c.loop-at.at c.loop-at.len (desk_of c.loop-at.desk) c.loop-at.listing c.loop-at.invariant c.loop-at-test.false in
     promised c.args.tape.now c.args.listing.now c.loop-at.len c.loop-at.listing (ends (desk_of c.loop-at.desk)) _ _ c.loop-at.invariant.room c.loop-at.invariant.back refl
-    c.into-rig-2.ensures refl h
+    c.into_rig-2.ensures refl h

@@ -1,4 +1,4 @@
-use Rattle.std.proofs.Common.{replicate, refl, arith, rules}
+use Rattle.std.proofs.Common.{replicate, refl, rules}
 use Rattle.track.specs.Answers.{told}
 use Rattle.track.specs.Calls.{map_of}
 use Rattle.routing.specs.Refusals.{number}
@@ -8,15 +8,15 @@ use Rattle.desk.specs.Asking.{desk_of}
 use Rattle.desk.proofs.Looks.{looked, looked_converted}
 use Rattle.desk.proofs.rules.Rules.look.Goals as goal
 
-pub returns-in-ok-survey-by : goal.returns-in-ok-survey-by
-returns-in-ok-survey-by c =
-    looked_converted (desk_of (map_of c.args.show.now.layout) c.args.self.now) c.args.kind Time c.args.home (replicate 256 Absent) (replicate 128 Absent) c.survey-by.new.table c.survey-by.new.board c.args.board.now
-    c.convert-all.new.board c.in-Time.is refl refl (search rules) c.in-ok-survey-by.ensures c.convert-all.ensures
+pub returns-in_ok-survey_by-in-Time : goal.returns-in_ok-survey_by-in-Time
+returns-in_ok-survey_by-in-Time c =
+    looked_converted (desk_of (map_of c.args.show.now.layout) c.args.self.now) c.args.kind Time c.args.home (replicate 256 Absent) (replicate 128 Absent) c.survey_by.new.table c.survey_by.new.board c.args.board.now
+    c.convert_all.new.board c.in-Time.is refl refl (search rules) c.in_ok-survey_by-in-Time.ensures c.convert_all.ensures
 
-pub returns-in-ok-survey-by-2 : goal.returns-in-ok-survey-by-2
-returns-in-ok-survey-by-2 c =
-    looked_converted (desk_of (map_of c.args.show.now.layout) c.args.self.now) c.args.kind Strain c.args.home (replicate 256 Absent) (replicate 128 Absent) c.survey-by-in-Strain.new.table c.survey-by-in-Strain.new.board
-    c.args.board.now c.convert-all-in-Strain.new.board c.in-Strain.is refl refl (search rules) c.in-ok-survey-by-2.ensures c.convert-all-in-Strain.ensures
+pub returns-in_ok-survey_by-in-Strain : goal.returns-in_ok-survey_by-in-Strain
+returns-in_ok-survey_by-in-Strain c =
+    looked_converted (desk_of (map_of c.args.show.now.layout) c.args.self.now) c.args.kind Strain c.args.home (replicate 256 Absent) (replicate 128 Absent) c.survey_by-in-Strain.new.table c.survey_by-in-Strain.new.board
+    c.args.board.now c.convert_all-in-Strain.new.board c.in-Strain.is refl refl (search rules) c.in_ok-survey_by-in-Strain.ensures c.convert_all-in-Strain.ensures
 
 pub returns-in-HandOvers : goal.returns-in-HandOvers
 returns-in-HandOvers c =
