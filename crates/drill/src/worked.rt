@@ -117,7 +117,7 @@ fn tie_on_w(heap: Global) -> Result<(), Fault> {
     if found.cost != 90 {
         return Err(Fault::NotLeast);
     }
-    if found.walk.as_slice() != [1, 2, 3] && found.walk.as_slice() != [0, 3] {
+    if found.walk.as_slice() != [1, 2, 3].as_slice() && found.walk.as_slice() != [0, 3].as_slice() {
         return Err(Fault::OtherWalk);
     }
     Ok(())

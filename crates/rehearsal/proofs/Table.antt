@@ -6,7 +6,7 @@ use Rattle.walks.specs.Kinds.{Lawful}
 use Rattle.walks.specs.Cheapest.{Task, price, LeadsTo, AtLeast}
 use Rattle.walks.specs.Costs.{time_top, time_joint, handover_top, handover_joint}
 use Rattle.walks.proofs.Lawful.{sum_lawful, strain_lawful}
-use Rattle.rehearsal.specs.Cases.{Letter, t, s, h, kind_of, Case, task_of, Costs, Answered, EachCosts, Holds, EachHolds, cases}
+use Rattle.rehearsal.specs.Cases.{Letter, t, s, h, kind_of, Case, task_of, Costs, Answered, EachCosts, EachHolds, cases}
 use Rattle.rehearsal.proofs.Tests.{leads?, decides_leads, no_repeat?, decides_no_repeat}
 use Rattle.rehearsal.proofs.Bounds.{bounds?, bounded}
 

@@ -1,7 +1,7 @@
 use Rattle.std.proofs.Common.{◌≡◌, List, [], ◌∷◌, ◌++◌, subst}
 use Rattle.std.proofs.lemmas.List.{append_assoc}
 use Rattle.track.specs.Map.{Call}
-use Rattle.track.specs.Map.Call.{Lay, Open, Close}
+use Rattle.track.specs.Map.Call.{Open, Close}
 use Rattle.track.specs.Calls.{map_of, LeftBy}
 use Rattle.rehearsal.proofs.half.lay_at_the_half.Goals as goal
 

@@ -10,9 +10,9 @@ loop-rest-init c = sheet_none _ _ _ (search rules)
 
 pub loop-rest-preserved : goal.loop-rest-preserved
 loop-rest-preserved c =
-    sheet_more _ _ _ _ c.loop-rest.rest.now c.loop-rest.invariant c.split-line.result.0.now c.split-line.result.1.now _ (replied c.obey-line.result) _
-    c.split-line.ensures.cut c.obey-line.ensures.told c.obey-line.ensures.after
-    (ap (map replied) (pushed (c.obey-line.result ∷ []) refl c.in-ok-push.was c.push.ensures.items) ∙ map_push replied (vec_items c.loop-rest.outcomes) c.obey-line.result)
+    sheet_more _ _ _ _ c.loop-rest.rest.now c.loop-rest.invariant c.split_line.result.0.now c.split_line.result.1.now _ (replied c.obey_line.result) _
+    c.split_line.ensures.cut c.obey_line.ensures.told c.obey_line.ensures.after
+    (ap (map replied) (pushed (c.obey_line.result ∷ []) refl c.in_ok-push.was c.push.ensures.items) ∙ map_push replied (vec_items c.loop-rest.outcomes) c.obey_line.result)
 
 pub returns : goal.returns
 returns c =

@@ -5,8 +5,8 @@ use Rattle.sheet.proofs.scan.number_of.Goals as goal
 pub loop-b-init : goal.loop-b-init
 loop-b-init c = search (rules, read_none)
 
-pub returns-then-not-is-ascii-digit : goal.returns-then-not-is-ascii-digit
-returns-then-not-is-ascii-digit c = search (rules, read_stray)
+pub returns-then-not-is_ascii_digit : goal.returns-then-not-is_ascii_digit
+returns-then-not-is_ascii_digit c = search (rules, read_stray)
 
 pub returns-then-n-from : goal.returns-then-n-from
 returns-then-n-from c =

@@ -5,4 +5,4 @@ use Rattle.sheet.specs.Words.{name_text}
 use Rattle.sheet.proofs.words.read_name.Goals as goal
 
 pub returns-in-len1-up : goal.returns-in-len1-up
-returns-in-len1-up c = name_text_behind _ c.in-ok-point.rest.now (search rules) ∙ ap (λ o. o >>= (λ (p, bs). name_text p bs)) c.in-ok-point.ensures
+returns-in-len1-up c = name_text_behind _ c.in_ok-point.rest.now (search rules) ∙ ap (λ o. o >>= (λ (p, bs). name_text p bs)) c.in_ok-point.ensures
