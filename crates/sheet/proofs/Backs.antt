@@ -1,9 +1,9 @@
 -- What is written in plain words is read back.
-use Rattle.std.proofs.Common.{◌≡◌, ℕ, ◌+◌, ◌-◌, ◌*◌, ◌^◌, ◌<◌, ◌≤◌, Bool, true, false, cond, ◌&&◌, eqb, leb, ◌≢◌, List, [], ◌∷◌, ◌++◌, length, Some, None, codes, decimal, Option, sym, refl, ap, ◌∙◌, append_assoc, append-nil, arith, rules}
+use Rattle.std.proofs.Common.{◌≡◌, ℕ, ◌^◌, ◌<◌, ◌≤◌, true, false, cond, eqb, ◌≢◌, List, [], ◌∷◌, ◌++◌, length, Some, codes, decimal, Option, sym, refl, ap, ◌∙◌, append_assoc, append-nil, arith, rules}
 use Rattle.std.proofs.lemmas.Fmt.{digits_decimal, digits_value-decimal, decimal_nonempty}
 use Rattle.std.proofs.ByRecursion.{All-append}
 use Rattle.std.proofs.lemmas.Str.Parse.{IsNumeralModel, numerals_by_fold, tells_all_ascii_digits}
-use Rattle.std.proofs.lemmas.Bool.{and_parts, ne_eqb, false≢true}
+use Rattle.std.proofs.lemmas.Bool.{and_parts, false≢true}
 use Rattle.std.proofs.lemmas.Bool.Decides.{nat_tests}
 use Rattle.std.specs.List.{flat_map, AllByRecursion as All}
 use Rattle.std.specs.Char.{is_ascii_digit}
@@ -13,7 +13,7 @@ use Rattle.track.specs.Map.Call.{Lay, Strike, Retime, Name, Open, Close, Write, 
 use Rattle.sheet.proofs.Feeds.{NoFeed, lines_more}
 use Rattle.sheet.specs.Scan.{◌>>=◌, trimmed, word, behind, value, number, next}
 use Rattle.sheet.specs.Words.{says, said_as, calls}
-use Rattle.sheet.specs.Sheet.{lines, called, sheet_calls}
+use Rattle.sheet.specs.Sheet.{called, sheet_calls}
 use Rattle.sheet.specs.Plain.{words_of, Sayable, CallReadsBack, SheetReadsBack, sheet_of, spaced}
 
 own : IsNumeralModel (λ ds. all_ascii_digits ds ≡ true) (value 0)

@@ -12,7 +12,7 @@ use Rattle.sheet.specs.declared.rulings.Ruling.TheVariants.{Choose, SetFlat, Set
 use Rattle.sheet.specs.declared.questions.Question.{Question}
 use Rattle.sheet.specs.Words.{Said, nothing, unreadable, calls, rules, asks, says}
 use Rattle.sheet.specs.Sheet.{lines, called, sheet_calls}
-use Rattle.sheet.specs.Ruled.{rule_of, ruling_answer, set_by, ruled}
+use Rattle.sheet.specs.Ruled.{rule_of, ruling_answer, set_by}
 use Rattle.sheet.specs.Replies.{Reply, Told, left, lefts, AllTold, Goes_on}
 
 pub afters_append : (m : Map) (cs ds : List Call) → afters m (cs ++ ds) ≡ afters (afters m cs) ds

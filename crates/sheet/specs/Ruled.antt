@@ -1,5 +1,4 @@
 -- What a ruling answers, and what it leaves of the desk.
-use Rattle.std.specs.Prelude.{ℕ}
 use Rattle.tape.specs.declared.command.RuleName.{RuleName}
 use Rattle.tape.specs.declared.command.RuleName.TheVariants.{Flat, Point, Pair}
 use Rattle.track.specs.Answers.{Answer, gave, if_gave}
