@@ -13,19 +13,19 @@ use Rattle.sheet.specs.declared.questions.Question.{Question}
 use Rattle.sheet.specs.Words.{Said, nothing, unreadable, calls, rules, asks, says}
 use Rattle.sheet.specs.Sheet.{lines, called, sheet_calls}
 use Rattle.sheet.specs.Ruled.{rule_of, ruling_answer, set_by}
-use Rattle.sheet.specs.Replies.{Reply, Told, left, lefts, AllTold, Goes_on}
+use Rattle.sheet.specs.Replies.{Reply, Told, left, lefts, AllTold, GoesOn}
 
 pub afters_append : (m : Map) (cs ds : List Call) → afters m (cs ++ ds) ≡ afters (afters m cs) ds
 afters_append m [] ds = refl
 afters_append m (c ∷ cs) ds = afters_append (after m c) cs ds
 
-pub goes_on : (m n : Map) (cs : List Call) → n ≡ afters m cs → Goes_on m cs n
+pub goes_on : (m n : Map) (cs : List Call) → n ≡ afters m cs → GoesOn m cs n
 unfolding LeftBy map_after
 goes_on m n cs e before was = e ∙ ap (λ k. afters k cs) was ∙ sym (afters_append _ before cs)
 
 -- a question leaves everything as it was
 pub asked_line : (m : Map) (t : Rules) (s : Said) (q : Question) (n : Map) (r : Reply) → asks q ≡ s → Told (desk_of m t) (asks q) r → n ≡ m
-    → Told (desk_of m t) s r × (desk_of n t ≡ left (desk_of m t) s) × Goes_on m (called s) n
+    → Told (desk_of m t) s r × (desk_of n t ≡ left (desk_of m t) s) × GoesOn m (called s) n
 asked_line m t s q n r e told same =
     (subst (λ z. Told (desk_of m t) z r) e told, ap (λ k. desk_of k t) same ∙ ap (left (desk_of m t)) e, goes_on m n (called s) (same ∙ ap (λ z. afters m (called z)) e))
 

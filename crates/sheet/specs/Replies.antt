@@ -80,5 +80,5 @@ AllTold d (l ∷ ls) [] = ⊥
 AllTold d (l ∷ ls) (r ∷ rs) = Told d (says l) r × AllTold (left d (says l)) ls rs
 
 -- every list of calls that left the first map, and these calls after it, left the second
-abbrev pub Goes_on : Map → List Call → Map → Type 0
-Goes_on m cs n = (before : List Call) → LeftBy before m → LeftBy (before ++ cs) n
+abbrev pub GoesOn : Map → List Call → Map → Type 0
+GoesOn m cs n = (before : List Call) → LeftBy before m → LeftBy (before ++ cs) n

@@ -7,7 +7,7 @@ ghost use Rattle.desk.specs.Asking.{desk_of};
 ghost use Rattle.sheet.specs.Words.{says, asks};
 ghost use Rattle.sheet.specs.Sheet.{lines, called, sheet_calls};
 ghost use Rattle.sheet.specs.Ruled.{rule_of, ruling_answer, ruled};
-ghost use Rattle.sheet.specs.Replies.{map_in, desk_in, in_force, told_as, call_reply, Told, left, lefts, AllTold, Goes_on};
+ghost use Rattle.sheet.specs.Replies.{map_in, desk_in, in_force, told_as, call_reply, Told, left, lefts, AllTold, GoesOn};
 ghost use Rattle.sheet.specs.Said.{call_of, replied};
 
 use crate::outcomes::Outcome;
@@ -37,7 +37,7 @@ fn unless_refused(answer: Result<(), MapRefusal>, outcome: Outcome) -> Outcome
 pub fn obey(rig: &mut GetIn, call: Call<'_>) -> Outcome
     ensures told { replied result ≡ call_reply (map_in rig.old) (call_of call.entry) }
     ensures after { map_in rig.new ≡ after (map_in rig.old) (call_of call.entry) }
-    ensures law { Goes_on (map_in rig.old) (call_of call.entry ∷ []) (map_in rig.new) }
+    ensures law { GoesOn (map_in rig.old) (call_of call.entry ∷ []) (map_in rig.new) }
 {
     match call {
         Call::Lay {
@@ -123,7 +123,7 @@ fn answer(rig: &mut GetIn, rules: &Rules, question: Question) -> Outcome
 pub fn obey_line(rig: &mut GetIn, rules: &mut Rules, line: &[u8]) -> Outcome
     ensures told { Told (desk_in rig.old rules.old) (says line.now) (replied result) }
     ensures after { desk_in rig.new rules.new ≡ left (desk_in rig.old rules.old) (says line.now) }
-    ensures law { Goes_on (map_in rig.old) (called (says line.now)) (map_in rig.new) }
+    ensures law { GoesOn (map_in rig.old) (called (says line.now)) (map_in rig.new) }
 {
     match read_line(line) {
         Line::Nothing => Outcome::Silence,
@@ -157,7 +157,7 @@ pub fn obey_sheet(
 ) -> Result<Vec<Outcome>, AllocError>
     ensures told { IfOk result (λ v. AllTold (desk_in rig.old rules.old) (lines text.now) (map replied v.items)) }
     ensures after { OnOk result (desk_in rig.new rules.new ≡ lefts (desk_in rig.old rules.old) (lines text.now)) }
-    ensures law { OnOk result (Goes_on (map_in rig.old) (sheet_calls text.now) (map_in rig.new)) }
+    ensures law { OnOk result (GoesOn (map_in rig.old) (sheet_calls text.now) (map_in rig.new)) }
 {
     let mut outcomes = Vec::new(heap);
     let mut rest = text;
