@@ -1,6 +1,6 @@
 -- The plain words of whatever a line can say, and that they are read back.
 use Rattle.std.specs.Prelude.{◌≡◌, ℕ, ◌^◌, ◌<◌, cond, ◌≢◌, List, [], ◌∷◌, ◌++◌, map, codes, decimal, ◌==◌}
-use Rattle.std.specs.List.{flat_map, AllByRecursion as All}
+use Rattle.std.specs.List.{flat_map, AllByRecursion}
 use Rattle.tape.specs.declared.command.RuleName.{RuleName}
 use Rattle.tape.specs.declared.command.RuleName.TheVariants.{Flat, Point, Pair}
 use Rattle.tape.specs.Letters.{kind_letter}
@@ -56,7 +56,7 @@ abbrev pub SayableCall : Call → Type 0
 SayableCall (Lay tail head winch time strain) = (tail < 2 ^ 8) × (head < 2 ^ 8) × (winch < 2 ^ 8) × (time < 2 ^ 16) × (strain < 2 ^ 8)
 SayableCall (Strike run) = run < 2 ^ 16
 SayableCall (Retime run time) = (run < 2 ^ 16) × (time < 2 ^ 16)
-SayableCall (Name point text) = (point < 2 ^ 8) × All (λ b. b ≢ 10) text
+SayableCall (Name point text) = (point < 2 ^ 8) × AllByRecursion (λ b. b ≢ 10) text
 SayableCall Open = ⊥
 SayableCall Close = ⊥
 SayableCall Write = ⊥
@@ -82,14 +82,14 @@ LineReadsBack = (s : Said) → Sayable s → says (line_of s) ≡ s
 
 -- a line that can be read says nothing else
 abbrev pub SaysSayable : Type 0
-SaysSayable = (line : List ℕ) → All (λ b. b ≢ 10) line → says line ≢ unreadable → Sayable (says line)
+SaysSayable = (line : List ℕ) → AllByRecursion (λ b. b ≢ 10) line → says line ≢ unreadable → Sayable (says line)
 
 -- a sheet, a line for each
 abbrev pub sheet_of : List Said → List ℕ
 sheet_of ss = flat_map (λ s. line_of s ++ 10 ∷ []) ss
 
 abbrev pub SheetReadsBack : Type 0
-SheetReadsBack = (ss : List Said) → All Sayable ss → map says (lines (sheet_of ss)) ≡ ss
+SheetReadsBack = (ss : List Said) → AllByRecursion Sayable ss → map says (lines (sheet_of ss)) ≡ ss
 
 abbrev pub CallsReadBack : Type 0
-CallsReadBack = (ss : List Said) → All Sayable ss → sheet_calls (sheet_of ss) ≡ flat_map called ss
+CallsReadBack = (ss : List Said) → AllByRecursion Sayable ss → sheet_calls (sheet_of ss) ≡ flat_map called ss

@@ -1,6 +1,6 @@
 -- The plain words of a call, and that they are read as that call.
 use Rattle.std.specs.Prelude.{◌≡◌, ℕ, ◌^◌, ◌<◌, ◌≢◌, List, [], ◌∷◌, ◌++◌, codes, decimal}
-use Rattle.std.specs.List.{flat_map, AllByRecursion as All}
+use Rattle.std.specs.List.{flat_map, AllByRecursion}
 use Rattle.track.specs.Map.{Call}
 use Rattle.track.specs.Map.Call.{Lay, Strike, Retime, Name, Open, Close, Write, Survey, Route}
 use Rattle.sheet.specs.Words.{says, calls}
@@ -27,7 +27,7 @@ abbrev pub Sayable : Call → Type 0
 Sayable (Lay tail head winch time strain) = (tail < 2 ^ 8) × (head < 2 ^ 8) × (winch < 2 ^ 8) × (time < 2 ^ 16) × (strain < 2 ^ 8)
 Sayable (Strike run) = run < 2 ^ 16
 Sayable (Retime run time) = (run < 2 ^ 16) × (time < 2 ^ 16)
-Sayable (Name point text) = (point < 2 ^ 8) × All (λ b. b ≢ 10) text
+Sayable (Name point text) = (point < 2 ^ 8) × AllByRecursion (λ b. b ≢ 10) text
 Sayable Open = ⊥
 Sayable Close = ⊥
 Sayable Write = ⊥
@@ -42,4 +42,4 @@ abbrev pub sheet_of : List Call → List ℕ
 sheet_of cs = flat_map (λ c. words_of c ++ 10 ∷ []) cs
 
 abbrev pub SheetReadsBack : Type 0
-SheetReadsBack = (cs : List Call) → All Sayable cs → sheet_calls (sheet_of cs) ≡ cs
+SheetReadsBack = (cs : List Call) → AllByRecursion Sayable cs → sheet_calls (sheet_of cs) ≡ cs
