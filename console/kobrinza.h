@@ -1,7 +1,7 @@
 /* kobrinza.h - the player of the Kobrinza router, as C calls it.
  *
  * One call, which allocates nothing, keeps nothing and writes nowhere but into the listing buffer.
- * Link with libkobrinza.a, which `rt staticlib kobrinza` makes of the proved crate.
+ * Link with libkobrinza.a, which `make` builds of the proved crates kobrinza and kobrinza_c.
  */
 #ifndef KOBRINZA_H
 #define KOBRINZA_H
