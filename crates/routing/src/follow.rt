@@ -44,7 +44,7 @@ fn write_back<C: Copy>(table: &[Place<C>], end: u16, walk: &mut [u16])
 
 /// Writes the walk that ends with `end` at the beginning of the list, in hauling order, and answers the number of its runs.
 pub(crate) fn follow_back<C: Copy>(table: &[Place<C>], end: u16, list: &mut [u16]) -> usize
-    requires { (((w : List ℕ) × Chain table.now end w)) × (length table.now ≤ length list.old) }
+    requires { ((w : List ℕ) × Chain table.now end w) × (length table.now ≤ length list.old) }
     ensures { (w : List ℕ) → Chain table.now end w → (result ≡ length w) × (list.new ≡ w ++ drop (length w) list.old) }
 {
     let count = count_back(table, end);

@@ -29,7 +29,7 @@ abbrev pub calls_of : List Event → List Call
 calls_of [] = []
 calls_of (e ∷ es) = call_of e ∷ calls_of es
 
--- a rig, in get_in or in show, and its map
+-- a rig, in get-in or in show, and its map
 pub record State : Type 0 where
   pub in_show : Bool
   pub map : Map
