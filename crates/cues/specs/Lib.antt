@@ -1,1 +1,2 @@
 pub mod FaultText
+pub mod Printed
