@@ -1,197 +1,182 @@
-// Surveys and routes, held to the least costs that the relaxation found.
-use crate::buffers::{check_numbers, check_places, marked_numbers, marked_places};
-use crate::fault::Fault;
-use crate::price::{check_walk, walk_back};
-use crate::question::Question;
-use crate::relaxation::{is_same, least_to};
+// Surveys and routes, held to the least costs that were worked out apart.
+use crate::ask::{BOARD, NO_RUN, Routed, Surveyed, TABLE, UNTOUCHED};
+use crate::least::{Costs, least_to};
+use crate::net::{MOST, NO_WALK, Net};
 use routing::place::Place;
 use routing::refusal::SearchRefusal;
-use routing::route::route;
-use routing::survey::survey;
-use std::alloc::Global;
-use track::rig::Show;
-use track::run::{POINTS, Run};
-use walks::kind::CostKind;
-use walks::rule::HandoverRule;
+use track::run::POINTS;
 
-/// How many places more than needed the buffers have.
-const MORE: usize = 3;
+/// The cost of a place.
+fn cost_of(place: Place<u64>) -> u64 {
+    match place {
+        Place::Absent => NO_WALK,
+        Place::Reached { cost, run: _ } => cost,
+    }
+}
 
-/// The cost of a place, if there is a walk.
-fn cost_of<C: Copy>(place: Place<C>) -> Option<C> {
+/// The run of a place, if it has one.
+fn run_of(place: Place<u64>) -> Option<u16> {
     match place {
         Place::Absent => None,
-        Place::Reached { cost, run: _ } => Some(cost),
+        Place::Reached { cost: _, run } => run,
     }
 }
 
-/// Place `number` of a table: its cost is the least, and followed back it gives a walk of that cost.
-fn check_table_place<K: CostKind, R: HandoverRule>(
-    heap: Global,
-    asked: &Question<K, R>,
-    table: &[Place<K::Cost>],
-    number: u16,
-    run: Run,
-    label: Option<K::Cost>,
-) -> Result<(), Fault> {
-    let Some(place) = table.get(usize::from(number)) else {
-        return Err(Fault::TablePlace);
-    };
-    let told = cost_of(*place);
-    if !is_same(asked.kind, told, label) {
-        return Err(Fault::TablePlace);
-    }
-    let Some(cost) = told else {
-        return Ok(());
-    };
-    let walk = walk_back(heap, table, number)?;
-    check_walk(asked, run.head, &walk, cost)
-}
-
-/// A table with a place for each run.
-fn check_table<K: CostKind, R: HandoverRule>(
-    heap: Global,
-    asked: &Question<K, R>,
-    labels: &[Option<K::Cost>],
-    table: &[Place<K::Cost>],
-) -> Result<(), Fault> {
-    let mut number = 0u16;
-    for (run, label) in asked.runs.iter().zip(labels) {
-        check_table_place(heap, asked, table, number, *run, *label)?;
-        number = number.saturating_add(1);
-    }
-    Ok(())
-}
-
-/// The last run that the board names for a point that is reached at this cost.
-fn check_last_run<K: CostKind, R: HandoverRule>(
-    asked: &Question<K, R>,
-    table: &[Place<K::Cost>],
-    point: u8,
-    cost: K::Cost,
-    last: Option<u16>,
-) -> Result<(), Fault> {
-    let Some(number) = last else {
-        return if point == asked.home {
-            Ok(())
-        } else {
-            Err(Fault::LastRun)
-        };
-    };
-    let Some(run) = asked.runs.get(usize::from(number)) else {
-        return Err(Fault::LastRun);
-    };
-    let Some(place) = table.get(usize::from(number)) else {
-        return Err(Fault::LastRun);
-    };
-    if point == asked.home || run.head != point {
-        return Err(Fault::LastRun);
-    }
-    if !is_same(asked.kind, cost_of(*place), Some(cost)) {
-        return Err(Fault::LastRun);
-    }
-    Ok(())
-}
-
-/// The place of a point on a board.
-fn check_board_place<K: CostKind, R: HandoverRule>(
-    asked: &Question<K, R>,
-    labels: &[Option<K::Cost>],
-    table: &[Place<K::Cost>],
-    point: u8,
-    place: Place<K::Cost>,
-) -> Result<(), Fault> {
-    if !is_same(asked.kind, cost_of(place), least_to(asked, labels, point)) {
-        return Err(Fault::BoardPlace);
-    }
-    match place {
-        Place::Absent => Ok(()),
-        Place::Reached { cost, run } => check_last_run(asked, table, point, cost, run),
+/// The cost in a table's place; there is none past its end.
+fn cost_at(table: &[Place<u64>; TABLE], run: usize) -> u64 {
+    if run < TABLE {
+        cost_of(table[run])
+    } else {
+        NO_WALK
     }
 }
 
-/// A board with a place for each point.
-fn check_board<K: CostKind, R: HandoverRule>(
-    asked: &Question<K, R>,
-    labels: &[Option<K::Cost>],
-    table: &[Place<K::Cost>],
-    board: &[Place<K::Cost>],
-) -> Result<(), Fault> {
-    for point in 0..POINTS as u8 {
-        let Some(place) = board.get(usize::from(point)) else {
-            return Err(Fault::BoardPlace);
-        };
-        check_board_place(asked, labels, table, point, *place)?;
-    }
-    Ok(())
-}
-
-/// A survey: its table, its board, and that the places past them are untouched.
-pub fn check_survey<K: CostKind, R: HandoverRule>(
-    heap: Global,
-    rig: &Show,
-    asked: &Question<K, R>,
-    labels: &[Option<K::Cost>],
-) -> Result<(), Fault> {
-    let laid = asked.runs.len();
-    let mut table = marked_places(heap, asked.kind, laid.saturating_add(MORE))?;
-    let mut board = marked_places(heap, asked.kind, POINTS + MORE)?;
-    survey(
-        rig, asked.kind, asked.rule, asked.home, &mut table, &mut board,
-    )?;
-    check_table(heap, asked, labels, &table)?;
-    check_places(asked.kind, &table, laid)?;
-    check_board(asked, labels, &table, &board)?;
-    check_places(asked.kind, &board, POINTS)
-}
-
-/// A route that was found: a walk of the least cost at the beginning of the list, and the rest untouched.
-fn check_found<K: CostKind, R: HandoverRule>(
-    asked: &Question<K, R>,
-    mark: u8,
-    least: Option<K::Cost>,
-    cost: K::Cost,
-    count: usize,
-    list: &[u16],
-) -> Result<(), Fault> {
-    if least.is_none() {
-        return Err(Fault::Way);
-    }
-    if !is_same(asked.kind, Some(cost), least) {
-        return Err(Fault::NotLeast);
-    }
-    if count > list.len() {
-        return Err(Fault::TooLong);
-    }
-    check_walk(asked, mark, &list[0..count], cost)?;
-    check_numbers(list, count)
-}
-
-/// A route: its answer and its list, the table that it leaves, and that the places past them are untouched.
-pub fn check_route<K: CostKind, R: HandoverRule>(
-    heap: Global,
-    rig: &Show,
-    asked: &Question<K, R>,
-    labels: &[Option<K::Cost>],
-    mark: u8,
-) -> Result<(), Fault> {
-    let laid = asked.runs.len();
-    let mut table = marked_places(heap, asked.kind, laid.saturating_add(MORE))?;
-    let mut list = marked_numbers(heap, laid.saturating_add(MORE))?;
-    let answer = route(
-        rig, asked.kind, asked.rule, asked.home, mark, &mut table, &mut list,
-    );
-    check_table(heap, asked, labels, &table)?;
-    check_places(asked.kind, &table, laid)?;
-    let least = least_to(asked, labels, mark);
-    match answer {
-        Ok(found) => check_found(asked, mark, least, found.1, found.0, &list),
-        Err(SearchRefusal::NoWay) => {
-            if least.is_some() {
-                return Err(Fault::Way);
-            }
-            check_numbers(&list, 0)
+/// Whether the places from `first` on are as nobody wrote them.
+fn are_untouched(places: &[Place<u64>], first: usize) -> bool {
+    for i in first..places.len() {
+        if places[i] != UNTOUCHED {
+            return false;
         }
-        Err(refusal) => Err(Fault::SearchRefused(refusal)),
     }
+    true
+}
+
+/// Whether a table's place holds a cost that comes by the run before it, or by its being a first run.
+fn comes_so(net: &Net, table: &[Place<u64>; TABLE], run: usize) -> bool {
+    let cost = cost_at(table, run);
+    if cost == NO_WALK || run >= TABLE {
+        return true;
+    }
+    match run_of(table[run]) {
+        None => net.begin(run) == cost,
+        Some(before) => {
+            let last = usize::from(before);
+            net.follow(cost_at(table, last), last, run) == cost
+        }
+    }
+}
+
+/// Whether the runs before, followed back from `run`, come to a first one; then none stands among them twice.
+fn begins(table: &[Place<u64>; TABLE], run: usize) -> bool {
+    let mut at = run;
+    for _ in 0..TABLE {
+        if at >= TABLE {
+            return false;
+        }
+        match run_of(table[at]) {
+            None => return true,
+            Some(before) => at = usize::from(before),
+        }
+    }
+    false
+}
+
+/// Whether a table has each run's least cost and a walk that has it, and is untouched past the runs laid.
+fn table_holds(net: &Net, least: &Costs, laid: usize, table: &[Place<u64>; TABLE]) -> bool {
+    for run in 0..MOST {
+        if run < laid {
+            if cost_at(table, run) != least[run]
+                || !comes_so(net, table, run)
+                || !begins(table, run)
+            {
+                return false;
+            }
+        }
+    }
+    are_untouched(table, laid)
+}
+
+/// Whether the last run of a place on the board ends at its point, at the same cost; only the home has none.
+fn last_holds(net: &Net, table: &[Place<u64>; TABLE], point: u8, place: Place<u64>) -> bool {
+    match run_of(place) {
+        None => point == net.home || cost_of(place) == NO_WALK,
+        Some(run) => {
+            let last = usize::from(run);
+            point != net.home && net.ends_at(last, point) && cost_at(table, last) == cost_of(place)
+        }
+    }
+}
+
+/// Whether a board has each point's least cost and a last run of that cost, and is untouched past the points.
+fn board_holds(net: &Net, least: &Costs, told: &Surveyed) -> bool {
+    for point in 0..POINTS as u8 {
+        let place = told.board[point as usize];
+        if cost_of(place) != least_to(net, least, point)
+            || !last_holds(net, &told.table, point, place)
+        {
+            return false;
+        }
+    }
+    are_untouched(&told.board, POINTS)
+}
+
+/// Whether a survey's table and board are right.
+pub fn survey_holds(net: &Net, least: &Costs, laid: usize, told: &Surveyed) -> bool {
+    table_holds(net, least, laid, &told.table) && board_holds(net, least, told)
+}
+
+/// Whether a number stands in the list twice.
+fn repeats(walk: &[u16]) -> bool {
+    for (i, number) in walk.iter().enumerate() {
+        if walk[0..i].contains(number) {
+            return true;
+        }
+    }
+    false
+}
+
+/// What these runs cost as a walk from the home to `mark`.
+fn price(net: &Net, mark: u8, walk: &[u16]) -> u64 {
+    let [first, rest @ ..] = walk else {
+        return if mark == net.home { 0 } else { NO_WALK };
+    };
+    let mut last = usize::from(*first);
+    let mut cost = net.begin(last);
+    for number in rest {
+        let next = usize::from(*number);
+        cost = net.follow(cost, last, next);
+        last = next;
+    }
+    if net.ends_at(last, mark) {
+        cost
+    } else {
+        NO_WALK
+    }
+}
+
+/// Whether the numbers from `first` on are as nobody wrote them.
+fn list_untouched(list: &[u16; TABLE], first: usize) -> bool {
+    for i in first..TABLE {
+        if list[i] != NO_RUN {
+            return false;
+        }
+    }
+    true
+}
+
+/// Whether the list begins with a walk of so many runs to `mark` that has this cost and repeats no run, and is untouched past it.
+fn list_holds(net: &Net, mark: u8, count: usize, cost: u64, list: &[u16; TABLE]) -> bool {
+    if count > TABLE || cost == NO_WALK {
+        return false;
+    }
+    let walk = &list[0..count];
+    price(net, mark, walk) == cost && !repeats(walk) && list_untouched(list, count)
+}
+
+/// Whether a route's answer, list and table are right.
+pub fn route_holds(
+    net: &Net,
+    least: &Costs,
+    laid: usize,
+    mark: u8,
+    answer: Result<(usize, u64), SearchRefusal>,
+    told: &Routed,
+) -> bool {
+    let lowest = least_to(net, least, mark);
+    let right = match answer {
+        Ok(found) => found.1 == lowest && list_holds(net, mark, found.0, found.1, &told.list),
+        Err(SearchRefusal::NoWay) => lowest == NO_WALK && list_untouched(&told.list, 0),
+        Err(_) => false,
+    };
+    right && table_holds(net, least, laid, &told.table)
 }

@@ -20,22 +20,12 @@ impl Dice {
         x
     }
 
-    /// A number below `n`, which is not above 256; 0 where `n` is 0.
-    pub fn below(&mut self, n: usize) -> usize {
-        if n == 0 {
-            return 0;
-        }
-        (self.throw() >> 7) as usize % n
-    }
-
-    /// Whether a throw of one in `n` came.
-    pub fn one_in(&mut self, n: usize) -> bool {
-        self.below(n) == 0
-    }
-
     /// One of `choices`; `other` where there are none.
     pub fn pick<T: Copy>(&mut self, choices: &[T], other: T) -> T {
-        let i = self.below(choices.len());
-        if i < choices.len() { choices[i] } else { other }
+        let count = choices.len();
+        if count == 0 {
+            return other;
+        }
+        choices[(self.throw() >> 7) as usize % count]
     }
 }

@@ -1,144 +1,95 @@
+// Rigs and rules that look random.
 use crate::dice::Dice;
-use crate::fault::Fault;
-use std::alloc::Global;
-use track::rig::GetIn;
+use crate::net::MOST;
+use track::rig::{GetIn, Show};
 use track::run::Run;
 use walks::by_pair::ByPair;
 use walks::by_point::ByPoint;
 use walks::flat::Flat;
 
-/// The points that drawn rigs use, the first and the last among them.
-const POINTS_IN_USE: [u8; 6] = [0, 127, 1, 64, 5, 126];
+/// The points to ask for: six that drawn rigs use, the first and the last among them, and one that none uses.
+pub const POINTS_ASKED: [u8; 7] = [0, 127, 1, 64, 5, 126, 77];
 
-/// A point that no drawn rig uses.
-const POINT_APART: u8 = 77;
+/// How many of them a rig may use.
+const MOST_USED: usize = 6;
 
 /// The winches that drawn rigs use, the first and the last among them.
-const WINCHES_IN_USE: [u8; 4] = [0, 15, 1, 2];
+const WINCHES_USED: [u8; 4] = [0, 15, 1, 2];
 
 /// Settings to draw from: free, small, the highest penalty, and barred.
 const SETTINGS: [u16; 10] = [0, 0, 1, 2, 3, 5, 25, 65_534, 65_535, 65_535];
 
-/// How the times of a rig's runs are drawn.
-#[derive(Clone, Copy, Drop)]
-enum Times {
-    /// All 0, so that every ring is one of time 0.
-    Still,
-    /// All 1, so that many walks tie.
-    Equal,
-    /// Small, and often 0.
-    Small,
-    /// Up to the highest.
-    Wide,
-}
+/// Times to draw from: all 0, so that every ring is one of time 0; all 1, so that many walks tie; small; and up to the highest.
+const TIMES: [[u16; 8]; 4] = [
+    [0, 0, 0, 0, 0, 0, 0, 0],
+    [1, 1, 1, 1, 1, 1, 1, 1],
+    [0, 0, 1, 1, 2, 3, 4, 7],
+    [0, 1, 9, 300, 4_000, 65_534, 65_535, 65_535],
+];
 
-/// A rig in get-in, the runs that it should have, and the points to ask it for.
-#[derive(Drop)]
-pub struct Drawn {
-    pub rig: GetIn,
-    pub runs: Vec<Run>,
-    pub points: Vec<u8>,
-}
+/// What stands past the runs laid.
+const STRUCK: Run = Run {
+    tail: 0,
+    head: 0,
+    winch: 0,
+    time: 0,
+    strain: 0,
+    struck: true,
+};
 
-fn draw_time(dice: &mut Dice, times: Times) -> u16 {
-    match times {
-        Times::Still => 0,
-        Times::Equal => 1,
-        Times::Small => dice.pick(&[0, 0, 1, 1, 2, 3, 4, 7], 0),
-        Times::Wide => dice.pick(&[0, 1, 9, 300, 4_000, 65_534, 65_535], 0),
-    }
-}
-
-/// A run between two different points.
-fn draw_run(dice: &mut Dice, points: &[u8], times: Times) -> Run {
+/// A run between two different points, one in seven of them struck.
+fn draw_run(dice: &mut Dice, points: &[u8], times: [u16; 8]) -> Run {
     let tail = dice.pick(points, 0);
     let mut head = dice.pick(points, 0);
     if head == tail {
         head = if tail == 0 { 127 } else { 0 };
     }
-    let winch = dice.pick(&WINCHES_IN_USE, 0);
-    let time = draw_time(dice, times);
-    let strain = dice.pick(&[0, 10, 10, 20, 35, 50, 99, 100], 0);
     Run {
         tail,
         head,
-        winch,
-        time,
-        strain,
-        struck: false,
+        winch: dice.pick(&WINCHES_USED, 0),
+        time: dice.pick(&times, 0),
+        strain: dice.pick(&[0, 10, 10, 20, 35, 50, 99, 100], 0),
+        struck: dice.pick(&[true, false, false, false, false, false, false], false),
     }
 }
 
-/// Lays a run on the rig, and keeps it among the runs that the rig should have.
-pub fn lay_run(rig: &mut GetIn, runs: &mut Vec<Run>, run: Run) -> Result<(), Fault> {
-    let number = rig.lay(run.tail, run.head, run.winch, run.time, run.strain)?;
-    if usize::from(number) != runs.len() {
-        return Err(Fault::RunNumber);
-    }
-    runs.push(run)?;
-    Ok(())
+/// The runs of a rig; past those laid stand struck ones.
+#[derive(Clone, Copy, Drop)]
+pub struct Drawn {
+    pub runs: [Run; MOST],
+    pub laid: usize,
 }
 
-/// Strikes a run of the rig, unless it is struck already or the number is too high.
-fn strike_run(rig: &mut GetIn, runs: &mut Vec<Run>, number: usize) -> Result<(), Fault> {
-    if number >= runs.len() || number > 255 || runs[number].struck {
-        return Ok(());
+/// Up to nine runs over two to six points.
+pub fn draw_runs(dice: &mut Dice) -> Drawn {
+    let times = dice.pick(&TIMES, [0; 8]);
+    let used = dice.pick(&[2, 3, 4, 5, 6], 2).min(MOST_USED);
+    let laid = dice.pick(&[0, 1, 2, 3, 4, 5, 5, 6, 7, 8, 9], 0);
+    let mut runs = [STRUCK; MOST];
+    for i in 0..MOST {
+        if i < laid {
+            runs[i] = draw_run(dice, &POINTS_ASKED[0..used], times);
+        }
     }
-    rig.strike(number as u16)?;
-    runs[number].struck = true;
-    Ok(())
+    Drawn { runs, laid }
 }
 
-/// Alters the time of a run of the rig, unless it is struck or the number is too high.
-fn retime_run(rig: &mut GetIn, runs: &mut Vec<Run>, number: usize, time: u16) -> Result<(), Fault> {
-    if number >= runs.len() || number > 255 || runs[number].struck {
-        return Ok(());
-    }
-    rig.retime(number as u16, time)?;
-    runs[number].time = time;
-    Ok(())
-}
-
-/// Two to six points in use.
-fn draw_points(heap: Global, dice: &mut Dice) -> Result<Vec<u8>, Fault> {
-    let count = dice.pick(&[2, 3, 4, 5, 6], 2);
-    let mut points = Vec::new(heap);
-    for point in POINTS_IN_USE.iter().take(count) {
-        points.push(*point)?;
-    }
-    Ok(points)
-}
-
-/// A rig of up to nine runs over two to six points, some of the runs struck and some retimed.
-pub fn draw_rig(heap: Global, dice: &mut Dice) -> Result<Drawn, Fault> {
-    let times = dice.pick(
-        &[
-            Times::Still,
-            Times::Equal,
-            Times::Small,
-            Times::Small,
-            Times::Wide,
-        ],
-        Times::Small,
-    );
-    let mut points = draw_points(heap, dice)?;
+/// A rig with these runs. Each is laid with another time and retimed, and struck last where it should be.
+///
+/// No answer is looked at: whether the rig has the runs shows afterwards.
+pub fn rig_of(runs: &[Run]) -> Show {
     let mut rig = GetIn::new();
-    let mut runs = Vec::new(heap);
-    for _ in 0..dice.below(10) {
-        let run = draw_run(dice, &points, times);
-        lay_run(&mut rig, &mut runs, run)?;
+    let mut number = 0u16;
+    for run in runs {
+        let _ = rig.lay(run.tail, run.head, run.winch, run.time / 2, run.strain);
+        let _ = rig.retime(number, run.time);
+        if run.struck {
+            let _ = rig.strike(number);
+        }
+        number = number.saturating_add(1);
     }
-    for _ in 0..dice.pick(&[0, 0, 1, 2], 0) {
-        let number = dice.below(runs.len());
-        strike_run(&mut rig, &mut runs, number)?;
-    }
-    for _ in 0..dice.pick(&[0, 0, 1, 3], 0) {
-        let number = dice.below(runs.len());
-        let time = draw_time(dice, times);
-        retime_run(&mut rig, &mut runs, number, time)?;
-    }
-    points.push(POINT_APART)?;
-    Ok(Drawn { rig, runs, points })
+    rig.open()
 }
 
 /// A flat rule.
@@ -149,23 +100,21 @@ pub fn draw_flat(dice: &mut Dice) -> Flat {
 }
 
 /// A rule by point, with a setting for each point in use.
-pub fn draw_by_point(dice: &mut Dice) -> Result<ByPoint, Fault> {
+pub fn draw_by_point(dice: &mut Dice) -> ByPoint {
     let mut rule = ByPoint::new();
-    for point in POINTS_IN_USE {
-        rule.set(point, dice.pick(&SETTINGS, 0))?;
+    for point in POINTS_ASKED {
+        let _ = rule.set(point, dice.pick(&SETTINGS, 0));
     }
-    Ok(rule)
+    rule
 }
 
-/// A rule by pair, with a setting for each pair of winches in use.
-pub fn draw_by_pair(dice: &mut Dice) -> Result<ByPair, Fault> {
+/// A rule by pair, with a setting for each pair of winches in use; that of a winch and itself is refused.
+pub fn draw_by_pair(dice: &mut Dice) -> ByPair {
     let mut rule = ByPair::new();
-    for arriving in WINCHES_IN_USE {
-        for leaving in WINCHES_IN_USE {
-            if arriving != leaving {
-                rule.set(arriving, leaving, dice.pick(&SETTINGS, 0))?;
-            }
+    for arriving in WINCHES_USED {
+        for leaving in WINCHES_USED {
+            let _ = rule.set(arriving, leaving, dice.pick(&SETTINGS, 0));
         }
     }
-    Ok(rule)
+    rule
 }

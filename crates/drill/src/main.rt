@@ -1,192 +1,207 @@
-// Compares what survey and route answer with a computation of its own, on many small rigs that look random and are the same in each run.
+// Compares what survey and route answer with computations of its own, on many small rigs that look random and are the same in each run.
 #![tactic(auto)]
 
-mod buffers;
+mod ask;
 mod checks;
 mod dice;
 mod draw;
-mod enumeration;
-mod fault;
-mod price;
-mod question;
-mod refusals;
-mod relaxation;
-mod score;
-mod trial;
-mod worked;
+mod least;
+mod net;
+mod tally;
 
 use anyhow::anyhow;
+use ask::{BOARD, NO_RUN, Routed, Surveyed, TABLE, UNTOUCHED, ask_route, ask_survey};
+use checks::{route_holds, survey_holds};
 use dice::Dice;
-use draw::{Drawn, draw_by_pair, draw_by_point, draw_flat, draw_rig};
-use fault::Fault;
-use refusals::try_refusals;
-use score::{KindScores, Log, Score};
-use std::alloc::Global;
+use draw::{POINTS_ASKED, draw_by_pair, draw_by_point, draw_flat, draw_runs, rig_of};
+use least::{Costs, least_to, relaxed, tried};
+use net::{Kind, MOST, NO_WALK, Net, joints_by};
 use std::io;
+use tally::{
+    Asked, KindTally, Miss, Report, Row, RuleName, Tally, kind_words, row_words, rule_words,
+};
 use track::rig::Show;
 use track::run::Run;
-use trial::{Trial, try_homes};
-use walks::hand_overs::HandOvers;
 use walks::rule::HandoverRule;
-use walks::strain::Strain;
-use walks::time::Time;
-use worked::try_worked_cases;
 
 /// How many rigs are drawn.
 const RIGS: usize = 800;
 
-/// What was tried, and what came of it.
-#[derive(Drop)]
-struct Report {
-    rigs: Score,
-    time: KindScores,
-    strain: KindScores,
-    hand_overs: KindScores,
-    worked: Score,
-    refused_surveys: Score,
-    refused_routes: Score,
-    log: Log,
-}
+/// The most runs of a rig whose walks are all tried.
+const FEW: usize = 5;
 
-/// Whether a rig has the runs that it should have.
-fn check_runs(rig: &Show, runs: &[Run]) -> Result<(), Fault> {
-    if rig.runs() != runs {
-        return Err(Fault::RigRuns);
-    }
-    Ok(())
-}
+const KINDS: [Kind; 3] = [Kind::Time, Kind::Strain, Kind::HandOvers];
 
-/// Asks a rig under one rule, by each kind of cost.
-fn try_kinds<R: HandoverRule>(
-    heap: Global,
-    trial: &Trial,
-    rule: &R,
-    report: &mut Report,
-) -> Result<(), Fault> {
-    try_homes(heap, trial, &Time, rule, &mut report.time, &mut report.log)?;
-    try_homes(
-        heap,
-        trial,
-        &Strain,
-        rule,
-        &mut report.strain,
-        &mut report.log,
-    )?;
-    try_homes(
-        heap,
-        trial,
-        &HandOvers,
-        rule,
-        &mut report.hand_overs,
-        &mut report.log,
-    )
-}
+const ROWS: [Row; 4] = [Row::Walks, Row::Survey, Row::Route, Row::NoWay];
 
-/// Draws a rig, and asks it under each rule.
-fn try_rig(heap: Global, dice: &mut Dice, number: usize, report: &mut Report) -> Result<(), Fault> {
-    let Drawn { rig, runs, points } = draw_rig(heap, dice)?;
-    let rig = rig.open();
-    if let Some(fault) = report.rigs.count(check_runs(&rig, &runs)) {
-        report.log.add(format!(in heap; "rig {number}: {fault}")?)?;
-    }
-    let flat = draw_flat(dice);
-    let by_point = draw_by_point(dice)?;
-    let by_pair = draw_by_pair(dice)?;
-    let mut trial = Trial {
-        number,
-        rule: "flat rule",
-        rig: &rig,
-        runs: &runs,
-        points: &points,
+/// Whether a survey agrees.
+fn survey_agrees<R: HandoverRule>(show: &Show, rule: &R, net: &Net, least: &Costs) -> bool {
+    let mut told = Surveyed {
+        table: [UNTOUCHED; TABLE],
+        board: [UNTOUCHED; BOARD],
     };
-    try_kinds(heap, &trial, &flat, report)?;
-    trial.rule = "rule by point";
-    try_kinds(heap, &trial, &by_point, report)?;
-    trial.rule = "rule by pair";
-    try_kinds(heap, &trial, &by_pair, report)
+    let answer = ask_survey(show, net.kind, rule, net.home, &mut told);
+    answer.is_ok() && survey_holds(net, least, show.runs().len(), &told)
 }
 
-/// Tries everything.
-fn try_all(heap: Global, report: &mut Report) -> Result<(), Fault> {
-    let mut dice = Dice::new(2_463_534_242);
-    for number in 0..RIGS {
-        try_rig(heap, &mut dice, number, report)?;
+/// Whether a route agrees.
+fn route_agrees<R: HandoverRule>(
+    show: &Show,
+    rule: &R,
+    net: &Net,
+    least: &Costs,
+    mark: u8,
+) -> bool {
+    let mut told = Routed {
+        list: [NO_RUN; TABLE],
+        table: [UNTOUCHED; TABLE],
+    };
+    let answer = ask_route(show, net.kind, rule, net.home, mark, &mut told);
+    route_holds(net, least, show.runs().len(), mark, answer, &told)
+}
+
+/// Asks for the routes to each mark.
+fn try_marks<R: HandoverRule>(
+    show: &Show,
+    rule: &R,
+    net: &Net,
+    least: &Costs,
+    asked: Asked,
+    report: &mut Report,
+) {
+    for mark in POINTS_ASKED {
+        let row = if least_to(net, least, mark) == NO_WALK {
+            Row::NoWay
+        } else {
+            Row::Route
+        };
+        let agrees = route_agrees(show, rule, net, least, mark);
+        report.count(row, Asked { mark, ..asked }, agrees);
     }
-    try_worked_cases(heap, &mut report.worked, &mut report.log)?;
-    try_refusals(
-        heap,
-        &mut report.refused_surveys,
-        &mut report.refused_routes,
-        &mut report.log,
-    )
 }
 
-fn print_score(rt: &HostRuntime, what: &str, score: Score) -> io::Result<()> {
-    let tried = score.tried;
-    let agreed = score.agreed;
-    println!(rt; "{what:<28}{tried:>7} tried{agreed:>7} agreed")
+/// Asks by one kind from one home.
+fn try_home<R: HandoverRule>(show: &Show, rule: &R, net: &Net, asked: Asked, report: &mut Report) {
+    let least = relaxed(net);
+    if show.runs().len() <= FEW {
+        report.count(Row::Walks, asked, tried(net) == least);
+    }
+    report.count(Row::Survey, asked, survey_agrees(show, rule, net, &least));
+    try_marks(show, rule, net, &least, asked, report);
 }
 
-fn print_kind(rt: &HostRuntime, scores: KindScores) -> io::Result<()> {
-    let heap = rt.alloc();
-    let kind = scores.kind;
-    print_score(
-        rt,
-        format!(in heap; "surveys by {kind}")?.as_str(),
-        scores.surveys,
-    )?;
-    print_score(
-        rt,
-        format!(in heap; "routes by {kind}")?.as_str(),
-        scores.routes,
-    )?;
-    print_score(
-        rt,
-        format!(in heap; "no way by {kind}")?.as_str(),
-        scores.no_ways,
-    )?;
-    print_score(
-        rt,
-        format!(in heap; "all walks by {kind}")?.as_str(),
-        scores.walks,
-    )
+/// Asks by one rule, by each kind and from each home.
+fn try_rule<R: HandoverRule>(
+    show: &Show,
+    runs: &[Run; MOST],
+    rule: &R,
+    rig: usize,
+    name: RuleName,
+    report: &mut Report,
+) {
+    let joints = joints_by(rule, runs);
+    for kind in KINDS {
+        for home in POINTS_ASKED {
+            let net = Net {
+                kind,
+                home,
+                runs: *runs,
+                joints,
+            };
+            let asked = Asked {
+                rig,
+                rule: name,
+                kind,
+                home,
+                mark: home,
+            };
+            try_home(show, rule, &net, asked, report);
+        }
+    }
 }
 
-fn print_report(rt: &HostRuntime, report: &Report) -> io::Result<()> {
-    print_score(rt, "rigs laid", report.rigs)?;
-    print_kind(rt, report.time)?;
-    print_kind(rt, report.strain)?;
-    print_kind(rt, report.hand_overs)?;
-    print_score(rt, "worked cases", report.worked)?;
-    print_score(rt, "limits of survey", report.refused_surveys)?;
-    print_score(rt, "limits of route", report.refused_routes)?;
-    for line in report.log.lines.iter() {
-        println!(rt; "{line}")?;
+/// Draws a rig and three rules, and asks.
+fn try_rig(dice: &mut Dice, rig: usize, report: &mut Report) {
+    let drawn = draw_runs(dice);
+    let laid = drawn.laid.min(MOST);
+    let show = rig_of(&drawn.runs[0..laid]);
+    report.rigs.count(show.runs() == &drawn.runs[0..laid]);
+    try_rule(
+        &show,
+        &drawn.runs,
+        &draw_flat(dice),
+        rig,
+        RuleName::Flat,
+        report,
+    );
+    try_rule(
+        &show,
+        &drawn.runs,
+        &draw_by_point(dice),
+        rig,
+        RuleName::Point,
+        report,
+    );
+    try_rule(
+        &show,
+        &drawn.runs,
+        &draw_by_pair(dice),
+        rig,
+        RuleName::Pair,
+        report,
+    );
+}
+
+fn print_row(rt: &HostRuntime, what: &str, by: &str, tally: Tally) -> io::Result<()> {
+    let tried = tally.tried;
+    let agreed = tally.agreed;
+    println!(rt; "{what:<12}{by:<14}{tried:>8} tried{agreed:>8} agreed")
+}
+
+fn print_rows(rt: &HostRuntime, report: &Report) -> io::Result<()> {
+    for kind in KINDS {
+        for row in ROWS {
+            print_row(
+                rt,
+                row_words(row),
+                kind_words(kind),
+                report.tally(kind, row),
+            )?;
+        }
     }
     Ok(())
+}
+
+fn print_miss(rt: &HostRuntime, miss: Miss) -> io::Result<()> {
+    let what = row_words(miss.row);
+    let Asked {
+        rig,
+        rule,
+        kind,
+        home,
+        mark,
+    } = miss.asked;
+    let rule = rule_words(rule);
+    let kind = kind_words(kind);
+    println!(rt; "rig {rig}, {rule}, {kind}: {what} from {home}, mark {mark}")
 }
 
 fn run(rt: &HostRuntime) -> anyhow::Result<()> {
-    let heap = rt.alloc();
     let mut report = Report {
-        rigs: Score::new(),
-        time: KindScores::new("time"),
-        strain: KindScores::new("strain"),
-        hand_overs: KindScores::new("hand-overs"),
-        worked: Score::new(),
-        refused_surveys: Score::new(),
-        refused_routes: Score::new(),
-        log: Log {
-            lines: Vec::new(heap),
-        },
+        rigs: Tally::new(),
+        kinds: [KindTally::new(); 3],
+        misses: Vec::new(rt.alloc()),
     };
-    let outcome = try_all(heap, &mut report);
-    print_report(rt, &report)?;
-    if let Err(fault) = outcome {
-        println!(rt; "broken off: {fault}")?;
-        return Err(anyhow!("the drill broke off"));
+    let mut dice = Dice::new(2_463_534_242);
+    for rig in 0..RIGS {
+        try_rig(&mut dice, rig, &mut report);
     }
-    if !report.log.lines.is_empty() {
+    print_row(rt, "rigs laid", "", report.rigs)?;
+    print_rows(rt, &report)?;
+    for miss in report.misses.iter() {
+        print_miss(rt, *miss)?;
+    }
+    if !report.misses.is_empty() {
         return Err(anyhow!("not everything agreed"));
     }
     Ok(())

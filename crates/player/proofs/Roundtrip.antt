@@ -6,7 +6,8 @@ use Rattle.track.specs.Runs.{run_ok, idle, no_name}
 use Rattle.track.specs.Map.{Map}
 use Rattle.track.specs.Calls.{map_of}
 use Rattle.tape.specs.Tape.{numbered, run_commands, name_commands, commands_of, tape_of}
-use Rattle.player.specs.Play.{new_desk, with_map, Outcome}
+use Rattle.desk.specs.Desks.{new_desk, with_map}
+use Rattle.player.specs.Play.{Outcome}
 use Rattle.player.specs.Roundtrip.{SoundMap, RigsAreSound, RoundTrip, EqualRig, TapesPlayBack}
 use Rattle.player.proofs.Undisturbed.{AllDone, done_append}
 use Rattle.player.proofs.Spool.{done_plays, done_asks_nothing}

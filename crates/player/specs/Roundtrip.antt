@@ -6,9 +6,9 @@ use Rattle.track.specs.Runs.{run_ok, name_ok, idle}
 use Rattle.track.specs.Map.{Map, EqualMaps}
 use Rattle.track.specs.Calls.{map_of}
 use Rattle.tape.specs.Tape.{tape_of}
+use Rattle.desk.specs.Desks.{new_desk, with_map, Reply}
 use Rattle.player.specs.Faults.{ToldFault}
-use Rattle.player.specs.Lines.{Reply}
-use Rattle.player.specs.Play.{new_desk, with_map, items, ends, played, RepliesRight, PlayDone}
+use Rattle.player.specs.Play.{items, ends, played, RepliesRight, PlayDone}
 
 -- a map that calls can make: few enough runs, each in range, and a proper name for each point
 pub record SoundMap (m : Map) : Type 0 where

@@ -45,7 +45,7 @@ pub(crate) fn write_no_way(out: &mut [u8], kind: KindName, home: u8, mark: u8) -
 {
     let text = b" no way\n";
     let size = heading_size(home, mark) + text.len();
-    if size > out.len() {
+    if out.len() < size {
         return None;
     }
     let at = put_heading(out, kind, home, mark);

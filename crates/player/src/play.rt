@@ -3,7 +3,7 @@ ghost use Rattle.track.specs.Calls.{map_of};
 ghost use Rattle.tape.specs.Reading.{decode};
 ghost use Rattle.player.specs.Faults.{told_faults};
 ghost use Rattle.player.specs.Play.{PlayDone};
-ghost use Rattle.player.specs.Obeying.{desk_of, Turned};
+ghost use Rattle.player.specs.Obeying.{desk_in, Turned};
 
 use crate::desk::Desk;
 use crate::fault::{Fault, Layer};
@@ -61,7 +61,7 @@ struct Turn {
 
 /// Reads the command at the front of `tape` and obeys it; its line goes to the front of `rest`.
 fn obey_next(desk: &mut Desk, tape: &[u8], rest: &mut [u8]) -> Result<Turn, Layer>
-    ensures turned { Turned (decode tape.now) (desk_of desk.old) rest.old result (desk_of desk.new) rest.new }
+    ensures turned { Turned (decode tape.now) (desk_in desk.old) rest.old result (desk_in desk.new) rest.new }
     ensures within { IfOk result (λ t. (0 < t.read) × (t.read ≤ length tape.now) × (t.written ≤ length rest.old)) }
 {
     let (command, read) = read_command(tape)?;

@@ -7,12 +7,13 @@ use Rattle.track.specs.Map.Call.{Lay, Strike, Retime, Name, Open, Close, Write, 
 use Rattle.track.specs.Calls.{map_of, LeftBy}
 use Rattle.tape.specs.declared.command.KindName.{KindName}
 use Rattle.tape.specs.declared.command.RuleName.{RuleName}
+use Rattle.routing.specs.declared.place.Place.{Place}
 use Rattle.desk.specs.declared.rules.Rules.{Rules}
 use Rattle.desk.specs.Desks.{Desk, with_map}
 use Rattle.desk.specs.Asking.{desk_of}
-use Rattle.sheet.specs.Words.{Said, nothing, unreadable, calls, rules, asks, says}
+use Rattle.reader.specs.Words.{Said, nothing, unreadable, calls, rules, asks, looks, says}
 use Rattle.sheet.specs.Ruled.{rule_of, ruling_answer, ruled}
-use Rattle.sheet.specs.Answered.{Answered}
+use Rattle.sheet.specs.Answered.{Answered, Surveyed}
 
 -- the map that a rig in get-in holds
 abbrev pub map_in : GetIn → Map
@@ -32,6 +33,7 @@ pub data Reply : Type 0 where
   named : Reply
   in_force : RuleName → Reply
   routed : KindName → (cost : ℕ) → (runs : List ℕ) → Reply
+  surveyed : KindName → (home : ℕ) → (board : List (Place ℕ)) → Reply
   refusal : (number : ℕ) → Reply
 
 -- what the call gave, in words of its own, or its refusal
@@ -51,13 +53,14 @@ call_reply m Write = silence
 call_reply m Survey = silence
 call_reply m Route = silence
 
--- which of several cheapest routes is told is left open, so that the reply to a question is no equation with the desk
+-- which of several cheapest routes is told, and which last run, is left open, so that the reply to a question is no equation with the desk
 abbrev pub Told : Desk → Said → Reply → Type 0
 Told d nothing r = r ≡ silence
 Told d unreadable r = r ≡ cannot_be_read
 Told d (calls c) r = r ≡ call_reply d.map c
 Told d (rules x) r = r ≡ told_as (λ _. in_force (rule_of x)) (ruling_answer x)
 Told d (asks q) r = (a : Answer (ℕ × List ℕ)) × (r ≡ told_as (λ x. routed q.kind x.0 x.1) a) × Answered d q a
+Told d (looks l) r = (a : Answer (List (Place ℕ))) × (r ≡ told_as (surveyed l.kind l.home) a) × Surveyed d l a
 
 -- the desk that one line leaves
 abbrev pub left : Desk → Said → Desk
@@ -66,6 +69,7 @@ left d unreadable = d
 left d (calls c) = with_map d (after d.map c)
 left d (rules x) = ruled d x
 left d (asks q) = d
+left d (looks l) = d
 
 -- the desk that all the lines leave
 abbrev pub lefts : Desk → List (List ℕ) → Desk

@@ -6,22 +6,22 @@ mod costs;
 mod hex;
 mod obey;
 mod outcomes;
-mod questions;
 mod routes;
-mod rulings;
 mod run_lines;
-mod scan;
+mod surveys;
 mod winches;
-mod words;
 
+use costs::Cost;
 use desk::rules::Rules;
 use hex::tape_text;
 use obey::obey_sheet;
 use outcomes::Outcome;
 use routes::{Hop, Route, hand_over};
+use routing::place::Place;
 use run_lines::RunLine;
 use std::io;
 use std::io::{Read, Write};
+use surveys::{Reach, Survey};
 use track::rig::GetIn;
 use track::run::Run;
 use winches::winches_in_use;
@@ -46,6 +46,23 @@ fn print_route(rt: &HostRuntime, runs: &[Run], route: &Route) -> io::Result<()> 
     Ok(())
 }
 
+/// Prints the points that a survey reaches.
+fn print_survey(rt: &HostRuntime, survey: &Survey) -> io::Result<()> {
+    for (point, place) in survey.board.iter().enumerate() {
+        if let Place::Reached { cost, run } = *place {
+            rt.println(Reach {
+                point,
+                cost: Cost {
+                    kind: survey.kind,
+                    value: cost,
+                },
+                run,
+            })?;
+        }
+    }
+    Ok(())
+}
+
 /// Prints what came of each line, by its number from 1 on; of comments, nothing.
 fn print_outcomes(rt: &HostRuntime, runs: &[Run], outcomes: &[Outcome]) -> io::Result<()> {
     for (i, outcome) in outcomes.iter().enumerate() {
@@ -56,6 +73,9 @@ fn print_outcomes(rt: &HostRuntime, runs: &[Run], outcomes: &[Outcome]) -> io::R
         println!(rt; "line {number}: {outcome}")?;
         if let Outcome::Routed(route) = outcome {
             print_route(rt, runs, route)?;
+        }
+        if let Outcome::Surveyed(survey) = outcome {
+            print_survey(rt, survey)?;
         }
     }
     Ok(())

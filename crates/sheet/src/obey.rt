@@ -4,24 +4,28 @@ ghost use Rattle.track.specs.Answers.{told};
 ghost use Rattle.track.specs.Map.{Map, after};
 ghost use Rattle.track.specs.Calls.{map_of};
 ghost use Rattle.desk.specs.Asking.{desk_of};
-ghost use Rattle.sheet.specs.Words.{says, asks};
-ghost use Rattle.sheet.specs.Sheet.{lines, called, sheet_calls};
+ghost use Rattle.reader.specs.Words.{says, asks, looks};
+ghost use Rattle.reader.specs.Sheet.{lines, called, sheet_calls};
 ghost use Rattle.sheet.specs.Ruled.{rule_of, ruling_answer, ruled};
 ghost use Rattle.sheet.specs.Replies.{map_in, desk_in, in_force, told_as, call_reply, Told, left, lefts, AllTold, GoesOn};
-ghost use Rattle.sheet.specs.Said.{call_of, replied};
+ghost use Rattle.reader.specs.Said.{call_of};
+ghost use Rattle.sheet.specs.Outcomes.{said_by, replied};
 
 use crate::outcomes::Outcome;
-use crate::questions::Question;
 use crate::routes::Route;
-use crate::rulings::Ruling;
-use crate::words::{Call, Line, read_line};
+use crate::surveys::Survey;
 use desk::rules::Rules;
+use reader::questions::{Look, Question};
+use reader::rulings::Ruling;
+use reader::text::first_line;
+use reader::words::{Call, Line, read_line};
+use routing::place::Place;
 use std::alloc::{AllocError, Global};
 use std::mem;
 use tape::command::RuleName;
 use track::refusal::MapRefusal;
 use track::rig::{GetIn, Show};
-use track::run::MOST_RUNS;
+use track::run::{MOST_RUNS, POINTS};
 
 /// `outcome`, unless the call was refused.
 fn unless_refused(answer: Result<(), MapRefusal>, outcome: Outcome) -> Outcome
@@ -92,8 +96,15 @@ fn obey_ruling(rules: &mut Rules, ruling: Ruling) -> Outcome
     }
 }
 
+/// What may be asked of an opened rig.
+#[derive(Clone, Copy, Drop)]
+pub enum Asked {
+    Route(Question),
+    Survey(Look),
+}
+
 /// Asks a route of an opened rig.
-fn ask(show: &Show, rules: &Rules, question: Question) -> Outcome
+fn route(show: &Show, rules: &Rules, question: Question) -> Outcome
     ensures { Told (desk_of (map_of show.now.layout) rules.now) (asks question) (replied result) }
 {
     let mut list = [0; MOST_RUNS];
@@ -104,17 +115,42 @@ fn ask(show: &Show, rules: &Rules, question: Question) -> Outcome
             count: found.runs,
             list,
         }),
-        Err(refusal) => Outcome::NotRouted(refusal),
+        Err(refusal) => Outcome::SearchRefused(refusal),
     }
 }
 
-/// Opens the rig, asks a route of it, and closes it again.
-fn answer(rig: &mut GetIn, rules: &Rules, question: Question) -> Outcome
-    ensures told { Told (desk_in rig.old rules.now) (asks question) (replied result) }
+/// Asks a survey of an opened rig.
+fn survey(show: &Show, rules: &Rules, look: Look) -> Outcome
+    ensures { Told (desk_of (map_of show.now.layout) rules.now) (looks look) (replied result) }
+{
+    let mut board = [Place::Absent; POINTS];
+    match rules.look(show, look.kind, look.home, &mut board) {
+        Ok(()) => Outcome::Surveyed(Survey {
+            kind: look.kind,
+            home: look.home,
+            board,
+        }),
+        Err(refusal) => Outcome::SearchRefused(refusal),
+    }
+}
+
+/// Asks it of an opened rig.
+fn ask(show: &Show, rules: &Rules, asked: Asked) -> Outcome
+    ensures { Told (desk_of (map_of show.now.layout) rules.now) (said_by asked) (replied result) }
+{
+    match asked {
+        Asked::Route(question) => route(show, rules, question),
+        Asked::Survey(look) => survey(show, rules, look),
+    }
+}
+
+/// Opens the rig, asks it, and closes it again.
+fn answer(rig: &mut GetIn, rules: &Rules, asked: Asked) -> Outcome
+    ensures told { Told (desk_in rig.old rules.now) (said_by asked) (replied result) }
     ensures same { map_in rig.new ≡ map_in rig.old }
 {
     let show = mem::replace(rig, GetIn::new()).open();
-    let outcome = ask(&show, rules, question);
+    let outcome = ask(&show, rules, asked);
     *rig = show.close();
     outcome
 }
@@ -130,22 +166,9 @@ pub fn obey_line(rig: &mut GetIn, rules: &mut Rules, line: &[u8]) -> Outcome
         Line::Unreadable => Outcome::CannotBeRead,
         Line::Call(call) => obey(rig, call),
         Line::Rule(ruling) => obey_ruling(rules, ruling),
-        Line::Route(question) => answer(rig, rules, question),
+        Line::Route(question) => answer(rig, rules, Asked::Route(question)),
+        Line::Survey(look) => answer(rig, rules, Asked::Survey(look)),
     }
-}
-
-/// The first line of a text, without its line feed, and the text behind it.
-fn split_line(text: &[u8]) -> (&[u8], &[u8])
-    requires { 0 < length text.now }
-    ensures cut { lines text.now ≡ result.0.now ∷ lines result.1.now }
-    ensures less { length result.1.now < length text.now }
-{
-    for (i, b) in text.iter().enumerate() {
-        if *b == b'\n' {
-            return (&text[0..i], &text[i + 1..]);
-        }
-    }
-    (text, &[])
 }
 
 /// Carries out what each line of a sheet says, and tells what came of each.
@@ -161,27 +184,9 @@ pub fn obey_sheet(
 {
     let mut outcomes = Vec::new(heap);
     let mut rest = text;
-    while !rest.is_empty() {
-        let (line, more) = split_line(rest);
+    while let Some((line, more)) = first_line(rest) {
         outcomes.push(obey_line(rig, rules, line))?;
         rest = more;
     }
     Ok(outcomes)
-}
-
-#[cfg(test)]
-mod tests {
-    use super::*;
-
-    #[test]
-    fn a_name_has_eight_bytes(rt: HostRuntime) {
-        let mut rig = GetIn::new();
-        let mut rules = Rules::new();
-        let seven = obey_line(&mut rig, &mut rules, b"name 3 UPSTAGE");
-        assert!(rt; matches!(seven, Outcome::Refused(MapRefusal::BadName)));
-        let eight = obey_line(&mut rig, &mut rules, b"name 3 UPSTAGE ");
-        assert!(rt; matches!(eight, Outcome::Named));
-        let nine = obey_line(&mut rig, &mut rules, b"name 3 UPSTAGE  ");
-        assert!(rt; matches!(nine, Outcome::Refused(MapRefusal::BadName)));
-    }
 }

@@ -1,7 +1,8 @@
 ghost use Rattle.std.specs.Prelude.{◌≡◌, Some};
-ghost use Rattle.sheet.specs.Wording.{reason, rule_name, rule_refusal, no_route, wording};
+ghost use Rattle.sheet.specs.Wording.{reason, rule_name, rule_refusal, search_refusal as search_refusal_words, wording};
 
 use crate::routes::Route;
+use crate::surveys::Survey;
 use routing::refusal::SearchRefusal;
 use std::fmt;
 use tape::command::RuleName;
@@ -24,7 +25,8 @@ pub enum Outcome {
     InForce(RuleName),
     RuleRefused(RuleRefusal),
     Routed(Route),
-    NotRouted(SearchRefusal),
+    Surveyed(Survey),
+    SearchRefused(SearchRefusal),
 }
 
 impl fmt::Display for Outcome {
@@ -49,7 +51,8 @@ impl fmt::Display for Outcome {
             }
             Outcome::RuleRefused(refusal) => f.write_str(rule_refusal(*refusal)),
             Outcome::Routed(route) => write!(f, "{route}"),
-            Outcome::NotRouted(refusal) => f.write_str(no_route(*refusal)),
+            Outcome::Surveyed(survey) => write!(f, "{survey}"),
+            Outcome::SearchRefused(refusal) => f.write_str(search_refusal(*refusal)),
         }
     }
 }
@@ -92,9 +95,9 @@ fn rule_refusal(refusal: RuleRefusal) -> &'static str
     }
 }
 
-/// That there is no route, in words.
-fn no_route(refusal: SearchRefusal) -> &'static str
-    ensures { result.now ≡ no_route refusal }
+/// A refused route or survey, in words.
+fn search_refusal(refusal: SearchRefusal) -> &'static str
+    ensures { result.now ≡ search_refusal_words refusal }
 {
     match refusal {
         SearchRefusal::NoPoint => "refused 1: point above 127",

@@ -6,8 +6,8 @@ use Rattle.player.specs.Writing.{heading}
 use Rattle.player.proofs.Fields.{length_heading, no_way_parts, length_no_way, left_out, set_down}
 use Rattle.player.proofs.listing.write_no_way.Goals as goal
 
-pub returns-then-size-out : goal.returns-then-size-out
-returns-then-size-out c =
+pub returns-then-out-size : goal.returns-then-out-size
+returns-then-out-size c =
     let h = length_heading c.args.kind c.args.home c.args.mark in
     let l = length_no_way c.args.kind c.args.home c.args.mark in
     let a = left_out (no_way_line c.args.kind c.args.home c.args.mark) c.args.out.now (omega arith) in
