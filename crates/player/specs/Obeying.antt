@@ -6,7 +6,7 @@ use Rattle.tape.specs.Reading.{Read}
 use Rattle.desk.specs.Desks.{Desk, Reply, RightReply}
 use Rattle.desk.specs.Asking.{desk_of}
 use Rattle.player.specs.declared.fault.Layer.{Layer}
-use Rattle.player.specs.declared.desk.Desk.{Desk as DeskKept}
+use Rattle.player.specs.declared.keeping.Desk.{Desk as DeskKept}
 use Rattle.player.specs.declared.play.Turn.{Turn}
 use Rattle.player.specs.Faults.{LayerName, in_tape, in_listing, layer_number, layer_name}
 use Rattle.player.specs.Lines.{line_of}

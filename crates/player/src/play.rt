@@ -5,8 +5,8 @@ ghost use Rattle.player.specs.Faults.{told_faults};
 ghost use Rattle.player.specs.Play.{PlayDone};
 ghost use Rattle.player.specs.Obeying.{desk_in, Turned};
 
-use crate::desk::Desk;
 use crate::fault::{Fault, Layer};
+use crate::keeping::Desk;
 use tape::read::read_command;
 use track::rig::GetIn;
 

@@ -9,7 +9,7 @@ use Rattle.player.specs.declared.fault.ListingCause.TheVariants.{NoRoom}
 use Rattle.player.specs.Lines.{route_line}
 use Rattle.player.specs.Obeying.{desk_in, told_turn}
 use Rattle.player.proofs.Replies.{count_within, told_line, route_replied}
-use Rattle.player.proofs.desk.Desk.answer.Goals as goal
+use Rattle.player.proofs.keeping.Desk.answer.Goals as goal
 
 pub slice_bounds-write_route-end : goal.slice_bounds-write_route-end
 slice_bounds-write_route-end c =
