@@ -1,13 +1,13 @@
 -- The map that a list of calls leaves, worked out from the list alone; and what each call promises.
-use Rattle.std.specs.Prelude.{◌≡◌, ℕ, List, [], ◌∷◌, take}
-use Rattle.track.specs.declared.layout.Layout.{Layout}
+use Rattle.std.specs.Prelude.{◌≡◌, ℕ, List, [], ◌∷◌}
+use Rattle.track.specs.declared.rig.Rig.{Rig}
 use Rattle.track.specs.Answers.{Answer}
 use Rattle.track.specs.Map.{Map, Call, blank, after, lay_answer, run_answer, name_answer}
 use Rattle.track.specs.Map.Call.{Lay, Strike, Retime, Name}
 
 -- the map that a rig holds
-abbrev pub map_of : Layout → Map
-map_of l = record { runs = take l.table.laid l.table.runs; names = l.names }
+abbrev pub map_of : {S : Type 0} → Rig S → Map
+map_of r = record { runs = r.table.runs.items; names = r.names }
 
 abbrev pub afters : Map → List Call → Map
 afters m [] = m

@@ -6,3 +6,4 @@ pub mod Map
 pub mod Calls
 pub mod History
 pub mod Equal
+pub mod Lends

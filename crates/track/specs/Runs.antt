@@ -1,5 +1,6 @@
 -- What a run and a name may be.
-use Rattle.std.specs.Prelude.{ℕ, Bool, true, false, not, ◌&&◌, List, [], ◌∷◌, length, replicate, ◌==◌, nat_le, nat_lt}
+use Rattle.std.specs.Prelude.{ℕ, Bool, false, not, ◌&&◌, List, length, replicate, ◌==◌, nat_le, nat_lt}
+use Rattle.std.specs.List.{list_all}
 use Rattle.track.specs.declared.run.Run.{Run}
 use Rattle.track.specs.Sizes.{points, winches, most_strain, most_time, name_length}
 
@@ -22,8 +23,7 @@ abbrev pub plain : ℕ → Bool
 plain b = nat_le 32 b && nat_le b 126
 
 abbrev pub all_plain : List ℕ → Bool
-all_plain [] = true
-all_plain (b ∷ bs) = plain b && all_plain bs
+all_plain = list_all plain
 
 -- a name: eight such bytes
 abbrev pub name_ok : List ℕ → Bool

@@ -1,9 +1,8 @@
 #![tactic(auto)]
 
-pub mod calls;
-pub mod equal;
-pub mod layout;
+pub mod get_in;
 pub mod refusal;
 pub mod rig;
 pub mod run;
+pub mod show;
 pub mod theorems;

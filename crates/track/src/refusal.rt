@@ -1,8 +1,10 @@
-ghost use Rattle.std.specs.Prelude.{◌≡◌};
-ghost use Rattle.track.specs.Refusals.{number as number_of};
+ghost use Rattle.std.specs.Prelude.{◌≡◌, Some};
+ghost use Rattle.track.specs.Refusals.{number as number_of, reason};
 
-/// Why a call on the map was refused.
-#[derive(Clone, Copy, Drop, PartialEq, Eq, Debug)]
+use std::fmt;
+
+/// Why a call on the map was refused, with the number by which it is told.
+#[derive(Clone, Copy, PartialEq, Eq, Debug)]
 pub enum MapRefusal {
     /// A point above 127.
     NoPoint = 1,
@@ -22,11 +24,27 @@ pub enum MapRefusal {
     BadName = 13,
 }
 
-impl MapRefusal {
-    /// The number by which the refusal is told.
-    pub fn number(self) -> u8
-        ensures { result ≡ number_of self }
-    {
-        self as u8
+impl From<MapRefusal> for u8 {
+    ghost from_gives = { λ refusal n. n ≡ number_of refusal };
+
+    fn from(refusal: MapRefusal) -> u8 {
+        refusal as u8
+    }
+}
+
+impl fmt::Display for MapRefusal {
+    ghost output = { λ refusal. Some (reason refusal) };
+
+    fn fmt<W: fmt::Write>(&self, f: &mut fmt::Formatter<W>) -> fmt::Result {
+        f.write_str(match self {
+            MapRefusal::NoPoint => "point above 127",
+            MapRefusal::SamePoint => "tail and head are the same point",
+            MapRefusal::NoWinch => "winch above 15",
+            MapRefusal::StrainTooHigh => "strain above 100",
+            MapRefusal::MapFull => "256 runs have been laid",
+            MapRefusal::NoRun => "no such run",
+            MapRefusal::RunStruck => "run is struck",
+            MapRefusal::BadName => "a name is eight bytes from 32 to 126",
+        })
     }
 }

@@ -1,3 +1,8 @@
+ghost use Rattle.std.specs.Prelude.{◌≡◌};
+
+use crate::refusal::MapRefusal;
+use arrayvec::ArrayVec;
+
 /// How many points there are, numbered from 0.
 pub const POINTS: usize = 128;
 
@@ -11,7 +16,7 @@ pub const MOST_STRAIN: u8 = 100;
 pub const MOST_RUNS: usize = 256;
 
 /// A run: a one-way piece of track from its tail point to its head point, hauled by one winch.
-#[derive(Clone, Copy, Drop, PartialEq, Eq, Debug)]
+#[derive(Clone, Copy, Default, PartialEq, Eq, Debug)]
 pub struct Run {
     pub tail: u8,
     pub head: u8,
@@ -24,9 +29,31 @@ pub struct Run {
     pub struck: bool,
 }
 
-/// The runs in the order in which they were laid: the first `laid` places of `runs`.
+/// The runs in the order in which they were laid.
 #[derive(Drop)]
 pub struct RunTable {
-    pub(crate) runs: [Run; MOST_RUNS],
-    pub(crate) laid: usize,
+    pub(crate) runs: ArrayVec<Run, MOST_RUNS>,
+}
+
+impl RunTable {
+    ghost use Rattle.std.specs.Borrow.{sem};
+    ghost use Rattle.std.specs.Prelude.{IfOk, slice_index_or};
+    ghost use Rattle.track.specs.Runs.{idle};
+    ghost use Rattle.track.specs.Lends.{LendsRun, lent_answer, use_answer};
+
+    /// The run of that number, lent to be changed, if it was laid and is not struck.
+    pub(crate) fn in_use(&mut self, run: u16) -> Result<&mut Run, MapRefusal>
+        ensures* writes_back { sem 𝓛 (LendsRun self.entry run result) }
+        ensures answer { lent_answer result ≡ use_answer self.old.runs.items run }
+        ensures lent { IfOk result (λ r. r.now ≡ slice_index_or self.old.runs.items run idle) }
+    {
+        let run = self
+            .runs
+            .get_mut(usize::from(run))
+            .ok_or(MapRefusal::NoRun)?;
+        if run.struck {
+            return Err(MapRefusal::RunStruck);
+        }
+        Ok(run)
+    }
 }

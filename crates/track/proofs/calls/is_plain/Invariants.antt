@@ -1,6 +1,0 @@
-use Rattle.std.proofs.Common.{◌≡◌, drop}
-use Rattle.track.specs.Runs.{all_plain}
-use Rattle.track.proofs.calls.is_plain.Given as goal
-
-abbrev pub invariant-loop-b : goal.invariant-loop-b
-invariant-loop-b l = all_plain (drop l.b-index l.text) ≡ all_plain l.text

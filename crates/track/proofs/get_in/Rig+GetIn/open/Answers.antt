@@ -1,0 +1,6 @@
+use Rattle.std.proofs.Common.{rules}
+use Rattle.track.proofs.History.{one_more}
+use Rattle.track.proofs.get_in.Rig+GetIn.open.Goals as goal
+
+pub returns-clause-law : goal.returns-clause-law
+returns-clause-law c = one_more _ _ _ (search rules)
