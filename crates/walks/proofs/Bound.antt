@@ -1,13 +1,15 @@
 -- A walk that repeats no run meets no stop.
-use Rattle.std.proofs.Common.{◌≡◌, ℕ, suc, ◌+◌, ◌*◌, ◌<◌, ◌≤◌, min, Bool, true, false, cond, List, [], ◌∷◌, length, get_or, take, Some, None, Option, refl, ap, ◌∙◌, subst, inl, inr, arith}
+use Rattle.std.proofs.Common.{◌≡◌, ℕ, suc, ◌+◌, ◌*◌, ◌<◌, ◌≤◌, min, Bool, true, false, cond, List, [], ◌∷◌, length, get_or, Some, None, Option, refl, ap, ◌∙◌, subst, inl, inr, arith}
 use Rattle.std.specs.List.{AllByRecursion as All}
 use Rattle.std.proofs.lemmas.Bool.{cases_lt, both_ways}
-use Rattle.std.proofs.lemmas.List.{get_or_past, get_or_default, get_or-take, length-take-le}
+use Rattle.std.proofs.lemmas.List.{get_or_past, get_or_default}
 use Rattle.std.proofs.lemmas.Bool.Decides.{nat_tests}
 use Rattle.track.specs.Sizes.{most_runs, most_time}
 use Rattle.track.specs.Runs.{idle}
 use Rattle.track.specs.declared.run.Run.{Run}
-use Rattle.track.specs.Calls.{map_of}
+use Rattle.track.specs.declared.rig.Rig.{Rig}
+use Rattle.track.specs.Map.{Call}
+use Rattle.track.specs.Calls.{map_of, map_after, LeftBy}
 use Rattle.track.proofs.History.{left_is}
 use Rattle.walks.specs.Costs.{time_top, handover_top, change}
 use Rattle.walks.specs.Rules.{Rule, SoundRule}
@@ -71,20 +73,22 @@ module _ (m : List Run) (few-laid : length m ≤ most_runs) (in-time : (r : ℕ)
         handovers = handovers_are_sum t m w ∙ under (tenths t m w + change * changes m w) handover_top (omega arith);
       }
 
--- the map of a rig
-pub no_stop_met : NoStopMet
-no_stop_met rig =
-    let n = rig.table.laid in
-    let rs = rig.table.runs in
-    let room = rig.room in
-    let places = rig.places in
-    let l = length-take-le n rs (omega arith) in
-    unstopped (take n rs) (omega arith) (λ r. elim (cases_lt r n) [
+-- the map of a rig, in either state
+no_stop_of : {S : Type 0} (rig : Rig S) → NoStopOver (map_of rig).runs
+no_stop_of rig =
+    let rs = rig.table.runs.items in
+    unstopped rs rig.room (λ r. elim (cases_lt r (length rs)) [
       | inl lt ↦ (let s = rig.sound r lt in
-          let e : run_at (take n rs) r ≡ get_or rs r idle = get_or_default (take n rs) r not_laid idle (omega arith) ∙ get_or-take n rs r idle lt in
+          let e : run_at rs r ≡ get_or rs r idle = get_or_default rs r not_laid idle (omega arith) in
           rw e (grind (arith, nat_tests)))
-      | inr ge ↦ (let e : run_at (take n rs) r ≡ not_laid = get_or_past (take n rs) r not_laid (omega arith) in rw e (omega arith))
+      | inr ge ↦ (let e : run_at rs r ≡ not_laid = get_or_past rs r not_laid (omega arith) in rw e (omega arith))
     ])
 
+pub no_stop_met : NoStopMet
+no_stop_met = (no_stop_of, no_stop_of)
+
+no_stop_after : {S : Type 0} (calls : List Call) (rig : Rig S) → LeftBy calls (map_of rig) → NoStopOver (map_after calls).runs
+no_stop_after calls rig h = subst (λ m. NoStopOver m.runs) (left_is calls (map_of rig) h) (no_stop_of rig)
+
 pub no_stop_after_calls : NoStopAfterCalls
-no_stop_after_calls calls rig h = subst (λ m. NoStopOver m.runs) (left_is calls (map_of rig) h) (no_stop_met rig)
+no_stop_after_calls = (no_stop_after, no_stop_after)

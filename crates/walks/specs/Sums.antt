@@ -1,7 +1,9 @@
 -- The three costs as sums over the whole walk, and that a walk which repeats no run meets no stop.
 use Rattle.std.specs.Prelude.{◌≡◌, ℕ, ◌+◌, ◌*◌, ◌≤◌, min, max, cond, List, [], ◌∷◌}
 use Rattle.track.specs.declared.run.Run.{Run}
-use Rattle.track.specs.declared.layout.Layout.{Layout}
+use Rattle.track.specs.declared.rig.Rig.{Rig}
+use Rattle.track.specs.declared.rig.GetIn.{GetIn}
+use Rattle.track.specs.declared.rig.Show.{Show}
 use Rattle.track.specs.Map.{Call}
 use Rattle.track.specs.Calls.{map_of, map_after, LeftBy}
 use Rattle.walks.specs.Costs.{time_kind, strain_kind, handover_kind, time_top, handover_top, change}
@@ -48,8 +50,10 @@ NoStopOver m = (t : Rule) (a : ℕ) (w : List ℕ) (b : ℕ) → SoundRule t →
 
 -- over the map of any rig
 abbrev pub NoStopMet : Type 0
-NoStopMet = (rig : Layout) → NoStopOver (map_of rig).runs
+NoStopMet = ((rig : Rig GetIn) → NoStopOver (map_of rig).runs) × ((rig : Rig Show) → NoStopOver (map_of rig).runs)
 
 -- and over the map worked out from any list of calls that left a rig
 abbrev pub NoStopAfterCalls : Type 0
-NoStopAfterCalls = (calls : List Call) (rig : Layout) → LeftBy calls (map_of rig) → NoStopOver (map_after calls).runs
+NoStopAfterCalls =
+    ((calls : List Call) (rig : Rig GetIn) → LeftBy calls (map_of rig) → NoStopOver (map_after calls).runs)
+    × ((calls : List Call) (rig : Rig Show) → LeftBy calls (map_of rig) → NoStopOver (map_after calls).runs)

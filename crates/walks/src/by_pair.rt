@@ -43,7 +43,7 @@ impl ByPair {
         if arriving == leaving {
             return Err(RuleRefusal::SameWinch);
         }
-        self.settings[arriving as usize][leaving as usize] = setting;
+        self.settings[usize::from(arriving)][usize::from(leaving)] = setting;
         Ok(())
     }
 }
@@ -54,10 +54,8 @@ impl HandoverRule for ByPair {
     ghost sound = { first_of (Prim.search rules, Prim.grind (arith, Self.row.coded.inj)) };
 
     fn ask(&self, point: u8, arriving: u8, leaving: u8) -> Option<u16> {
-        if arriving >= WINCHES || leaving >= WINCHES {
-            return None;
-        }
-        let setting = self.settings[arriving as usize][leaving as usize];
-        answer(setting, point, arriving, leaving)
+        let row = self.settings.get(usize::from(arriving))?;
+        let setting = row.get(usize::from(leaving))?;
+        answer(*setting, point, arriving, leaving)
     }
 }

@@ -34,10 +34,11 @@ impl ByPoint {
         ensures settings { self.new.settings ≡ point_after self.old.settings point setting }
         ensures table { MovedAt (at_point point) setting (point_rule self.old.settings) (point_rule self.new.settings) }
     {
-        if point as usize >= POINTS {
+        let point = usize::from(point);
+        if point >= POINTS {
             return Err(RuleRefusal::NoPoint);
         }
-        self.settings[point as usize] = setting;
+        self.settings[point] = setting;
         Ok(())
     }
 }
@@ -48,9 +49,7 @@ impl HandoverRule for ByPoint {
     ghost sound = { Prim.search rules };
 
     fn ask(&self, point: u8, arriving: u8, leaving: u8) -> Option<u16> {
-        if point as usize >= POINTS {
-            return None;
-        }
-        answer(self.settings[point as usize], point, arriving, leaving)
+        let setting = self.settings.get(usize::from(point))?;
+        answer(*setting, point, arriving, leaving)
     }
 }

@@ -21,11 +21,7 @@ const NOT_LAID: Run = Run {
 fn run_at(runs: &[Run], run: u16) -> Run
     ensures { result ≡ run_at runs.now run }
 {
-    if (run as usize) < runs.len() {
-        runs[run as usize]
-    } else {
-        NOT_LAID
-    }
+    runs.get(usize::from(run)).copied().unwrap_or(NOT_LAID)
 }
 
 /// The cost of the walk of one run, if it is a walk from `home`.
@@ -51,13 +47,9 @@ pub fn follow<K: CostKind, R: HandoverRule>(
     if next.struck || next.tail != last.head {
         return None;
     }
-    match rule.ask(last.head, last.winch, next.winch) {
-        Some(penalty) => {
-            let crossed = kind.over(cost, penalty, last.winch != next.winch);
-            Some(kind.along(crossed, next.time, next.strain))
-        }
-        None => None,
-    }
+    let penalty = rule.ask(last.head, last.winch, next.winch)?;
+    let crossed = kind.over(cost, penalty, last.winch != next.winch);
+    Some(kind.along(crossed, next.time, next.strain))
 }
 
 /// What the walk of these run numbers costs, or `None` where it is no legal walk from `home` to `mark`.
