@@ -1,25 +1,24 @@
 -- Bytes put into a buffer one after another.
-use Rattle.std.proofs.Common.{◌≡◌, ℕ, ◌+◌, ◌≤◌, List, [], ◌++◌, length, take, drop, sym, refl, ap, ◌∙◌, arith}
-use lib.Seq.{paste}
-use Rattle.std.proofs.lemmas.List.{length-append, take-append-drop}
-use Rattle.std.proofs.lemmas.List.Edits.{paste_all, paste-paste}
-use Rattle.tape.specs.Buffers.{put_at}
+use Rattle.std.proofs.Common.{◌≡◌, ℕ, ◌-◌, List, ◌++◌, length, take, drop, arith, ap, ◌∙◌}
+use borrow.Rule.Slice.PartMut.{put_mid}
+use Rattle.std.proofs.lemmas.Grind.{common_steps}
+use Rattle.tape.specs.Buffers.{put_front}
 
-pub put_none : (base : List ℕ) (s : ℕ) → base ≡ put_at base s []
-put_none base s =
-    let e : s ≡ s + 0 = omega arith in
-    sym (take-append-drop s base) ∙ ap (λ n. take s base ++ drop n base) e
+-- what the rest of a buffer becomes, behind t
+behind : (t d ys : List ℕ) → put_mid (length t) (length (t ++ d) - length t) (t ++ d) ys ≡ t ++ ys
+behind t d ys = grind (arith, common_steps)
 
--- t, and behind it bs
-pub put_put : (base : List ℕ) (s e : ℕ) (t bs : List ℕ) → s ≤ length base → e ≡ s + length t → put_at (put_at base s t) e bs ≡ put_at base s (t ++ bs)
-put_put base s e t bs h q =
-    let l = length-append t bs in
-    ap (λ n. put_at (put_at base s t) n bs) q
-    ∙ ap (λ z. put_at z (s + length t) bs) (sym (paste_all base s t (length t) refl))
-    ∙ sym (paste_all (paste base s t (length t)) (s + length t) bs (length bs) refl)
-    ∙ paste-paste base s t bs (length t) (length bs) refl refl h
-    ∙ paste_all base s (t ++ bs) (length t + length bs) (sym l)
-    ∙ ap (λ n. take s base ++ ((t ++ bs) ++ drop (s + n) base)) (sym l)
+-- the rest of a buffer
+rest_is : (t d : List ℕ) → take (length (t ++ d) - length t) (drop (length t) (t ++ d)) ≡ d
+rest_is t d = grind (arith, common_steps)
 
-pub put_first : (base t : List ℕ) → put_at base 0 t ≡ t ++ drop (length t) base
-put_first base t = let e : 0 + length t ≡ length t = omega arith in ap (λ n. t ++ drop n base) e
+-- t, and bs at the front of what is left
+both : (out t bs : List ℕ) → t ++ put_front (drop (length t) out) bs ≡ put_front out (t ++ bs)
+both out t bs = grind (arith, common_steps)
+
+-- t at the front, and bs at the front of the rest
+pub put_next : (out was t bs rest : List ℕ) (n : ℕ) → was ≡ put_front out t → n ≡ length t
+    → rest ≡ put_front (take (length was - n) (drop n was)) bs → put_mid n (length was - n) was rest ≡ put_front out (t ++ bs)
+put_next out was t bs rest n w e r =
+    let d = drop (length t) out in
+    rw (r, w, e) (ap (λ z. put_mid (length t) (length (t ++ d) - length t) (t ++ d) (put_front z bs)) (rest_is t d) ∙ behind t d (put_front d bs) ∙ both out t bs)

@@ -1,5 +1,5 @@
--- The letters by which a tape names a kind of cost and a rule.
-use Rattle.std.specs.Prelude.{ℕ, cond, Some, None, Option, ◌==◌}
+-- The letters by which a tape names a kind of cost and a rule, and the word for a rule.
+use Rattle.std.specs.Prelude.{ℕ, cond, List, Some, None, codes, Option, ◌==◌}
 use Rattle.tape.specs.declared.command.KindName.{KindName}
 use Rattle.tape.specs.declared.command.KindName.TheVariants.{Time, Strain, HandOvers}
 use Rattle.tape.specs.declared.command.RuleName.{RuleName}
@@ -29,3 +29,8 @@ rule_named c =
     cond (c == rule_letter Flat) (Some Flat)
     (cond (c == rule_letter Point) (Some Point)
     (cond (c == rule_letter Pair) (Some Pair) None))
+
+abbrev pub rule_word : RuleName → List ℕ
+rule_word Flat = codes "flat"
+rule_word Point = codes "point"
+rule_word Pair = codes "pair"

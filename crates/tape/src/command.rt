@@ -1,5 +1,9 @@
-ghost use Rattle.std.specs.Prelude.{◌≡◌};
-ghost use Rattle.tape.specs.Letters.{kind_named, rule_named};
+ghost use Rattle.std.specs.Prelude.{◌≡◌, Some, ok_or};
+ghost use Rattle.tape.specs.Letters.{kind_letter, kind_named, rule_named, rule_word};
+ghost use Rattle.tape.specs.declared.refusal.TapeCause.TheVariants.{UnknownLetter};
+
+use crate::refusal::TapeCause;
+use std::fmt;
 
 /// A kind of cost that comes with the router, as a tape names it.
 #[derive(Clone, Copy, Drop, PartialEq, Eq, Debug)]
@@ -69,26 +73,67 @@ pub enum Command<'a> {
     },
 }
 
-/// The kind that a letter names: `t`, `s` or `h`.
-pub fn kind_of(letter: char) -> Option<KindName>
-    ensures { result ≡ kind_named letter }
-{
-    match letter {
-        't' => Some(KindName::Time),
-        's' => Some(KindName::Strain),
-        'h' => Some(KindName::HandOvers),
-        _ => None,
+/// A question, as a tape and a sheet ask it: the kind of cost, where the way begins and where it ends.
+#[derive(Clone, Copy, Drop)]
+pub struct Question {
+    pub kind: KindName,
+    pub home: u8,
+    pub mark: u8,
+}
+
+impl TryFrom<char> for KindName {
+    type Error = TapeCause;
+
+    ghost try_from_gives = { λ letter result. result ≡ ok_or (kind_named letter) UnknownLetter };
+
+    /// The kind that a letter names: `t`, `s` or `h`.
+    fn try_from(letter: char) -> Result<Self, TapeCause> {
+        match letter {
+            't' => Ok(KindName::Time),
+            's' => Ok(KindName::Strain),
+            'h' => Ok(KindName::HandOvers),
+            _ => Err(TapeCause::UnknownLetter),
+        }
     }
 }
 
-/// The rule that a letter names: `f`, `p` or `m`.
-pub fn rule_of(letter: char) -> Option<RuleName>
-    ensures { result ≡ rule_named letter }
-{
-    match letter {
-        'f' => Some(RuleName::Flat),
-        'p' => Some(RuleName::Point),
-        'm' => Some(RuleName::Pair),
-        _ => None,
+impl From<KindName> for u8 {
+    ghost from_gives = { λ kind letter. letter ≡ kind_letter kind };
+
+    /// The letter of a kind.
+    fn from(kind: KindName) -> u8 {
+        match kind {
+            KindName::Time => b't',
+            KindName::Strain => b's',
+            KindName::HandOvers => b'h',
+        }
+    }
+}
+
+impl TryFrom<char> for RuleName {
+    type Error = TapeCause;
+
+    ghost try_from_gives = { λ letter result. result ≡ ok_or (rule_named letter) UnknownLetter };
+
+    /// The rule that a letter names: `f`, `p` or `m`.
+    fn try_from(letter: char) -> Result<Self, TapeCause> {
+        match letter {
+            'f' => Ok(RuleName::Flat),
+            'p' => Ok(RuleName::Point),
+            'm' => Ok(RuleName::Pair),
+            _ => Err(TapeCause::UnknownLetter),
+        }
+    }
+}
+
+impl fmt::Display for RuleName {
+    ghost output = { λ rule. Some (rule_word rule) };
+
+    fn fmt<W: fmt::Write>(&self, f: &mut fmt::Formatter<W>) -> fmt::Result {
+        f.write_str(match self {
+            RuleName::Flat => "flat",
+            RuleName::Point => "point",
+            RuleName::Pair => "pair",
+        })
     }
 }

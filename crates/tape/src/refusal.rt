@@ -1,5 +1,5 @@
 ghost use Rattle.std.specs.Prelude.{◌≡◌};
-ghost use Rattle.tape.specs.Refusals.{number as number_of, cause_number};
+ghost use Rattle.tape.specs.Refusals.{number, cause_number};
 
 /// Why a tape was not written.
 #[derive(Clone, Copy, Drop, PartialEq, Eq, Debug)]
@@ -8,12 +8,12 @@ pub enum WriteRefusal {
     BufferShort = 17,
 }
 
-impl WriteRefusal {
+impl From<WriteRefusal> for u8 {
+    ghost from_gives = { λ refusal n. n ≡ number refusal };
+
     /// The number by which the refusal is told.
-    pub fn number(self) -> u8
-        ensures { result ≡ number_of self }
-    {
-        self as u8
+    fn from(refusal: WriteRefusal) -> u8 {
+        refusal as u8
     }
 }
 
@@ -28,11 +28,11 @@ pub enum TapeCause {
     UnknownLetter = 16,
 }
 
-impl TapeCause {
+impl From<TapeCause> for u8 {
+    ghost from_gives = { λ cause n. n ≡ cause_number cause };
+
     /// The number by which the cause is told.
-    pub fn number(self) -> u8
-        ensures { result ≡ cause_number self }
-    {
-        self as u8
+    fn from(cause: TapeCause) -> u8 {
+        cause as u8
     }
 }
