@@ -33,6 +33,7 @@ impl Rig<GetIn> {
     ///
     /// Refuses with 1 a tail or head above 127, with 2 a run from a point to itself, with 3 a winch above 15,
     /// with 4 a strain above 100, and with 5 the 257th run.
+    // Five operands, as a tape and a sheet have them: a struct would have its fields written out at each call, and be no plainer.
     pub fn lay(
         &mut self,
         tail: u8,

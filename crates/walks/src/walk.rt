@@ -52,6 +52,7 @@ pub fn follow<K: CostKind, R: HandoverRule>(
     Some(kind.along(crossed, next.time, next.strain))
 }
 
+// Kind, rule, runs and home go together through here, as survey and route are given them: a struct made for this one call is no plainer.
 /// What the walk of these run numbers costs, or `None` where it is no legal walk from `home` to `mark`.
 pub fn walk_cost<K: CostKind, R: HandoverRule>(
     kind: &K,
