@@ -1,10 +1,10 @@
 -- From a board to a row of costs, and from row to row.
-use Rattle.std.proofs.Common.{◌≡◌, ℕ, ◌+◌, ◌*◌, ◌<◌, ◌≤◌, List, length, get_or, take, sym, refl, ap, ◌∙◌, subst, inl, inr, arith, length-take, rules}
+use Rattle.std.proofs.Common.{Some, None, ◌≡◌, ℕ, ◌+◌, ◌*◌, ◌<◌, ◌≤◌, List, length, get_or, sym, refl, ◌∙◌, subst, inl, inr, arith, rules}
 use borrow.Rule.Slice.PartMut.{put_mid}
 use Rattle.std.proofs.lemmas.List.{places, get_or-take}
 use Rattle.std.proofs.lemmas.Bool.{cases_lt}
 use Rattle.std.proofs.lemmas.Bool.Decides.{nat_tests}
-use Rattle.track.specs.declared.layout.Layout.{Layout}
+use Rattle.track.specs.declared.rig.Rig.{Rig}
 use Rattle.track.specs.Sizes.{points, most_runs}
 use Rattle.track.specs.Answers.{Answer, gave}
 use Rattle.track.specs.Map.{Map}
@@ -12,19 +12,17 @@ use Rattle.track.specs.Calls.{map_of}
 use Rattle.walks.specs.Rules.{Rule}
 use Rattle.walks.specs.Costs.{time_kind}
 use Rattle.walks.specs.Cheapest.{Task, task}
-use Rattle.routing.specs.declared.place.Place.{Place}
-use Rattle.routing.specs.declared.place.Place.TheVariants.{Absent, Reached}
-use Rattle.routing.specs.Tables.{place, BoardPlace}
-use Rattle.routing.specs.Survey.{survey_answer, SurveyDone, SurveyLeft, BoardLeft}
+use Rattle.routing.specs.Tables.{Place, place, BoardPlace}
+use Rattle.routing.specs.Survey.{survey_answer, SurveyDone, SurveyLeft}
 use Rattle.bench_rig.specs.Costs.{cost_number, SaysCost, RowHolds, RowsLeft}
 
 -- a rig has at most 256 runs
-pub few_runs : (l : Layout) → length (map_of l).runs ≤ most_runs
-few_runs l = simp length-take (omega (arith, l.room))
+pub few_runs : {S : Type 0} (l : Rig S) → length (map_of l).runs ≤ most_runs
+few_runs l = l.room
 
 says : (k : Task ℕ) (t : List (Place ℕ)) (v : ℕ) (p : Place ℕ) → BoardPlace k t v p → SaysCost k v (cost_number p)
-says k t v Absent none = inr (none, refl)
-says k t v (Reached c r) (least, last) = inl least
+says k t v None none = inr (none, refl)
+says k t v (Some p) (least, last) = inl least
 
 -- a survey that finds all the places it asks for is not refused, and the costs on its board are a row
 pub row_of : (rule : Rule) (m : Map) (home : ℕ) (t b : List (Place ℕ)) (a : Answer (Unit {0})) (t' b' : List (Place ℕ)) (row : List ℕ)
@@ -36,7 +34,7 @@ row_of rule m home t b a t' b' row low laid room room' (answer, left) numbers v 
     let k = task time_kind rule m.runs home in
     let accepted : survey_answer m home (length t) (length b) ≡ gave tt = grind (arith, nat_tests) in
     let board = (subst (λ (x : Answer (Unit {0})). SurveyLeft k t b x t' b') (answer ∙ accepted) left).1 in
-    let here = subst (BoardPlace k _ v) (get_or-take points b' v Absent lt) (board.holds v lt) in
+    let here = subst (BoardPlace k _ v) (get_or-take points b' v None lt) (board.holds v lt) in
     subst (SaysCost k v) (sym (numbers v (omega arith))) (says k _ v (place b' v) here)
 
 -- the places of a list of which a part was written

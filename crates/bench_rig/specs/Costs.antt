@@ -1,15 +1,14 @@
 -- The costs as C gets them back: a row of points for each home.
-use Rattle.std.specs.Prelude.{◌≡◌, ℕ, ◌+◌, ◌*◌, ◌<◌, ◌≤◌, ◌⊎◌, List, slice_index}
+use Rattle.std.specs.Prelude.{◌≡◌, ℕ, ◌+◌, ◌*◌, ◌<◌, ◌≤◌, ◌⊎◌, List, Some, None, slice_index}
 use Rattle.track.specs.Sizes.{points}
 use Rattle.walks.specs.Costs.{time_top}
 use Rattle.walks.specs.Cheapest.{Task, LeadsTo, NoWalk, Cheapest}
-use Rattle.routing.specs.declared.place.Place.{Place}
-use Rattle.routing.specs.declared.place.Place.TheVariants.{Absent, Reached}
+use Rattle.routing.specs.Tables.{Place}
 
 -- the number of a place; no cost of a walk that repeats no run comes near the largest
 abbrev pub cost_number : Place ℕ → ℕ
-cost_number Absent = time_top
-cost_number (Reached cost run) = cost
+cost_number None = time_top
+cost_number (Some place) = place.cost
 
 -- the number c for the point v: the least cost of the legal walks that end there, or 4,294,967,295 where there is none
 abbrev pub SaysCost : Task ℕ → (v c : ℕ) → Type 0

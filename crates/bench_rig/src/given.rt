@@ -2,7 +2,7 @@ ghost use Rattle.std.specs.Prelude.{◌≡◌};
 ghost use Rattle.track.specs.Calls.{map_of, LeftBy};
 ghost use Rattle.bench_rig.specs.Given.{lays, settings_after};
 
-use track::rig::GetIn;
+use track::rig::{GetIn, Rig};
 use walks::by_pair::ByPair;
 
 /// A run to be laid.
@@ -26,10 +26,10 @@ pub struct GivenSetting {
 }
 
 /// A rig on which the runs were laid in turn. A run that is refused is left out.
-pub(crate) fn lay_all(runs: &[GivenRun]) -> GetIn
-    ensures { LeftBy (lays runs.now) (map_of result.layout) }
+pub(crate) fn lay_all(runs: &[GivenRun]) -> Rig<GetIn>
+    ensures { LeftBy (lays runs.now) (map_of result) }
 {
-    let mut rig = GetIn::new();
+    let mut rig = Rig::new();
     for run in runs {
         let _ = rig.lay(run.tail, run.head, run.winch, run.time, run.strain);
     }

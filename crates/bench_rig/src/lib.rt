@@ -15,7 +15,6 @@ ghost use Rattle.bench_rig.specs.Costs.{RowsLeft};
 
 use costs::survey_homes;
 use given::{GivenRun, GivenSetting, lay_all, set_all};
-use routing::place::Place;
 use track::run::{MOST_RUNS, POINTS};
 
 /// Lays the runs on a new rig, sets a new pair rule, and surveys by time from each of the points below `homes`.
@@ -33,13 +32,14 @@ pub extern "C" fn bench_surveys(
     ensures surveyed { result ≡ true → RowsLeft (λ home. task time_kind (pair_rule (settings_after settings.now)) (map_after (lays runs.now)).runs home) homes costs.old costs.new }
     ensures refused { result ≡ false → costs.new ≡ costs.old }
 {
-    if homes as usize > POINTS || costs.len() < POINTS * homes as usize {
+    let rows = usize::from(homes);
+    if rows > POINTS || costs.len() < POINTS * rows {
         return false;
     }
     let rig = lay_all(runs).open();
     let rule = set_all(settings);
-    let mut table = [Place::Absent; MOST_RUNS];
-    let mut board = [Place::Absent; POINTS];
+    let mut table = [None; MOST_RUNS];
+    let mut board = [None; POINTS];
     survey_homes(&rig, &rule, homes, &mut table, &mut board, costs);
     true
 }

@@ -1,5 +1,5 @@
 -- A rule and a kind of the company's own.
-use Rattle.std.specs.Prelude.{ℕ, ◌+◌, ◌*◌, min, true, cond, not, ◌&&◌, ◌||◌, None, ◌==◌, nat_le}
+use Rattle.std.specs.Prelude.{ℕ, ◌+◌, ◌*◌, min, cond, not, ◌&&◌, ◌||◌, None, ◌==◌, nat_le}
 use Rattle.walks.specs.Kinds.{Kind}
 use Rattle.walks.specs.Rules.{Rule}
 

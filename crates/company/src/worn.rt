@@ -12,13 +12,13 @@ use crate::wear::Wear;
 use routing::place::Place;
 use routing::refusal::SearchRefusal;
 use routing::route::route;
-use track::rig::Show;
+use track::rig::{Rig, Show};
 use walks::flat::Flat;
 use walks::walk::walk_cost;
 
 /// What the walk wears the ropes while one winch is kept to itself, or `None` where it is then no legal walk from `home` to `mark`.
-pub fn wear_without(rig: &Show, winch: u8, home: u8, mark: u8, walk: &[u16]) -> Option<u64>
-    ensures { Priced (task wear_kind (isolated (flat_rule 0) winch) (map_of rig.now.layout).runs home) mark walk.now result }
+pub fn wear_without(rig: &Rig<Show>, winch: u8, home: u8, mark: u8, walk: &[u16]) -> Option<u64>
+    ensures { Priced (task wear_kind (isolated (flat_rule 0) winch) (map_of rig.now).runs home) mark walk.now result }
 {
     let rule = Isolated {
         rule: Flat::new(),
@@ -32,14 +32,14 @@ pub fn wear_without(rig: &Show, winch: u8, home: u8, mark: u8, walk: &[u16]) -> 
 ///
 /// Refuses as any route does: with 1 a home or a mark above 127, with 8 and 9 a table or a list too short, with 11 where there is no way.
 pub fn least_worn(
-    rig: &Show,
+    rig: &Rig<Show>,
     winch: u8,
     home: u8,
     mark: u8,
     table: &mut [Place<u64>],
     list: &mut [u16],
 ) -> Result<(usize, u64), SearchRefusal>
-    ensures { RouteDone wear_kind (isolated (flat_rule 0) winch) (map_of rig.now.layout) home mark table.old list.old (told number result) table.new list.new }
+    ensures { RouteDone wear_kind (isolated (flat_rule 0) winch) (map_of rig.now) home mark table.old list.old (told number result) table.new list.new }
 {
     let rule = Isolated {
         rule: Flat::new(),
@@ -52,11 +52,11 @@ pub fn least_worn(
 mod tests {
     use super::*;
     use std::test::Fail;
-    use track::rig::GetIn;
+    use track::rig::{Rig, Show};
 
     #[test]
     fn a_winch_kept_to_itself_hands_nothing_over(rt: HostRuntime) -> Result<(), Fail> {
-        let mut rig = GetIn::new();
+        let mut rig = Rig::new();
         rig.lay(0, 1, 0, 30, 40)?;
         rig.lay(0, 2, 1, 20, 70)?;
         rig.lay(2, 1, 1, 20, 20)?;
@@ -65,7 +65,7 @@ mod tests {
         assert_eq!(rt; wear_without(&rig, 7, 0, 3, &[0, 3]), Some(4200));
         assert_eq!(rt; wear_without(&rig, 1, 0, 3, &[0, 3]), None);
         assert_eq!(rt; wear_without(&rig, 1, 0, 3, &[1, 2, 3]), Some(4800));
-        let mut table = [Place::Absent; 4];
+        let mut table = [None; 4];
         let mut list = [9; 4];
         assert_eq!(rt;
             least_worn(&rig, 7, 0, 3, &mut table, &mut list)?,

@@ -8,7 +8,7 @@ use Rattle.track.specs.History.{State, get_in}
 use Rattle.track.specs.History.{Event as MapEvent, call_of as map_call_of, Step as MapStep, Right as MapRight}
 use Rattle.walks.specs.Kinds.{Kind, Lawful}
 use Rattle.walks.specs.Rules.{Rule, SoundRule}
-use Rattle.routing.specs.declared.place.Place.{Place}
+use Rattle.routing.specs.Tables.{Place}
 use Rattle.routing.specs.Survey.{SurveyDone}
 use Rattle.routing.specs.Route.{RouteDone}
 

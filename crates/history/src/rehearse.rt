@@ -11,7 +11,7 @@ use routing::refusal::SearchRefusal;
 use routing::route::route;
 use routing::survey::survey;
 use track::refusal::MapRefusal;
-use track::rig::GetIn;
+use track::rig::Rig;
 use walks::kind::CostKind;
 use walks::rule::HandoverRule;
 
@@ -56,7 +56,7 @@ pub fn rehearse<K: CostKind, J: CostKind, R: HandoverRule>(
         ∷ OnMap Closed
         ∷ []) z }
 {
-    let mut rig = GetIn::new();
+    let mut rig = Rig::new();
     let laid = rig.lay(0, 1, 0, 30, 40);
     let looped = rig.lay(5, 5, 0, 1, 1);
     let joined = rig.lay(1, 2, 1, 50, 60);

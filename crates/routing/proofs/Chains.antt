@@ -4,9 +4,7 @@ use Rattle.std.specs.List.{AllByRecursion as All}
 use Rattle.std.proofs.lemmas.List.{drop_all, drop-set, drop_more}
 use Rattle.walks.specs.Cheapest.{last}
 use Rattle.walks.proofs.Few.{few}
-use Rattle.routing.specs.declared.place.Place.{Place}
-use Rattle.routing.specs.declared.place.Place.TheVariants.{Reached}
-use Rattle.routing.specs.Tables.{place, Linked}
+use Rattle.routing.specs.Tables.{Place, place, reached, Linked}
 use Rattle.routing.specs.Chains.{before, Chain}
 use Rattle.routing.proofs.Places.{in_table}
 
@@ -26,12 +24,12 @@ last_at (q ∷ []) r is = (0, refl, cc)
 last_at (q ∷ (s ∷ w)) r is = let e = last_at (s ∷ w) r is in (suc e.0, omega (arith, e.1), e.2)
 
 module _ {C : Type 0} (t : List (Place C)) where
-  linked_at : (b : Option ℕ) (w : List ℕ) (i : ℕ) → i < length w → Linked t b w → (c : C) × (place t (get_or w i 0) ≡ Reached c (in_front b w i))
+  linked_at : (b : Option ℕ) (w : List ℕ) (i : ℕ) → i < length w → Linked t b w → (c : C) × (place t (get_or w i 0) ≡ reached c (in_front b w i))
   linked_at b [] i lt l = absurd (omega arith)
   linked_at b (r ∷ w) zero lt (c, is, rest) = (c, is)
   linked_at b (r ∷ w) (suc i) lt (c, is, rest) =
       let e = linked_at (Some r) w i (omega arith) rest in
-      (e.0, e.1 ∙ ap (Reached e.0) (in_front_next r w i))
+      (e.0, e.1 ∙ ap (reached e.0) (in_front_next r w i))
 
   all_in_table : (b : Option ℕ) (w : List ℕ) → Linked t b w → All (λ r. r < length t) w
   all_in_table b [] l = tt

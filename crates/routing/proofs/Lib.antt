@@ -1,3 +1,4 @@
+pub mod Orders
 pub mod Trails
 pub mod Turns
 pub mod Loops

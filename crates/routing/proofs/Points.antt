@@ -7,19 +7,15 @@ use Rattle.walks.specs.Kinds.{Kind, Lawful, Le, Fits}
 use Rattle.walks.specs.Rules.{Rule}
 use Rattle.walks.specs.Walks.{not_laid, run_at, Walk, joint, penalty_of, differ, along, onward, cost}
 use Rattle.walks.specs.Cheapest.{Task, last, LeadsTo, EndsWith, NoWalk, AtLeast, Cheapest}
-use Rattle.routing.specs.declared.place.Place.{Place}
-use Rattle.routing.specs.declared.place.Place.TheVariants.{Absent, Reached}
-use Rattle.routing.specs.Tables.{place, TablePlace, TableHolds, BoardPlace}
-use Rattle.routing.specs.Offers.{BestInto}
+use Rattle.routing.specs.Tables.{Place, place, reached, TablePlace, TableHolds, BoardPlace}
+use Rattle.routing.specs.Offers.{BestBy, BestInto}
+use Rattle.routing.proofs.Orders.{le_refl}
 use Rattle.routing.proofs.Places.{cases_place}
 
 -- no walk costs less than the start
 module _ {C : Type 0} (k : Kind C) (laws : Lawful k) (t : Rule) (m : List Run) where
-  no_higher : (c : C) → Le k c c
-  no_higher c = elim (laws.total c c) [ inl h ↦ h | inr h ↦ h ]
-
   onward_up : (c : C) (q : ℕ) (w : List ℕ) → Fits k c → Le k c (onward k t m c q w)
-  onward_up c q [] fit = no_higher c
+  onward_up c q [] fit = le_refl laws c
   onward_up c q (r ∷ w) fit =
       let x = run_at m q in
       let y = run_at m r in
@@ -30,7 +26,7 @@ module _ {C : Type 0} (k : Kind C) (laws : Lawful k) (t : Rule) (m : List Run) w
       (laws.trans o (along k o y) _ (laws.along_up o y.time y.strain fit') (onward_up (along k o y) r w (laws.along_fits o y.time y.strain fit')))
 
   start_least : (w : List ℕ) → Le k k.start (cost k t m w)
-  start_least [] = no_higher k.start
+  start_least [] = le_refl laws k.start
   start_least (r ∷ w) =
       let y = run_at m r in
       laws.trans k.start (along k k.start y) _ (laws.along_up k.start y.time y.strain laws.start_fits)
@@ -55,7 +51,7 @@ module _ {C : Type 0} (k : Task C) (laws : Lawful k.kind) where
   at_home v home = record { among = (sym home, tt); costs = refl; least = λ w leads. start_least k.kind laws k.rule k.runs w }
 
   -- so the home's place on the board is the start, reached by no run
-  pub home_place : (t : List (Place C)) (v : ℕ) (c : C) → v ≡ k.home → c ≡ k.kind.start → BoardPlace k t v (Reached c None)
+  pub home_place : (t : List (Place C)) (v : ℕ) (c : C) → v ≡ k.home → c ≡ k.kind.start → BoardPlace k t v (reached c None)
   home_place t v c home start = (([], subst (Cheapest k (LeadsTo k v) []) (sym start) (at_home v home)), (home, start))
 
   -- a legal walk to another point ends with a run that was laid and whose head is that point
@@ -67,39 +63,42 @@ module _ {C : Type 0} (k : Task C) (laws : Lawful k.kind) where
 
   module _ (t : List (Place C)) (holds : TableHolds k t) (v : ℕ) (away : v ≡ k.home → ⊥) where
     -- where no run into v is reached, no legal walk leads to v
-    no_way : ((r : ℕ) → r < length k.runs → (run_at k.runs r).head ≡ v → place t r ≡ Absent) → NoWalk (LeadsTo k v)
+    no_way : ((r : ℕ) → r < length k.runs → (run_at k.runs r).head ≡ v → place t r ≡ None) → NoWalk (LeadsTo k v)
     no_way none w leads =
         let e = ends_with v away w leads in
         let gone : NoWalk (EndsWith k e.0) = subst (TablePlace k t e.0) (none e.0 e.1 e.2) (holds e.0 e.1) in
         gone w e.3
 
     -- a cost that is above that of no run into v is above that of no legal walk to v
-    least : (c : C) → ((r : ℕ) (d : C) (b : Option ℕ) → r < length k.runs → (run_at k.runs r).head ≡ v → place t r ≡ Reached d b → Le k.kind c d) → AtLeast k (LeadsTo k v) c
+    least : (c : C) → ((r : ℕ) (d : C) (b : Option ℕ) → r < length k.runs → (run_at k.runs r).head ≡ v → place t r ≡ reached d b → Le k.kind c d) → AtLeast k (LeadsTo k v) c
     least c low w leads =
         let e = ends_with v away w leads in
         let here = holds e.0 e.1 in
         elim (cases_place (place t e.0)) [
           | inl gone ↦ (let none : NoWalk (EndsWith k e.0) = subst (TablePlace k t e.0) gone here in absurd (none w e.3))
-          | inr is ↦ (let found : TablePlace k t e.0 (Reached is.0 is.1) = subst (TablePlace k t e.0) is.2 here in
+          | inr is ↦ (let found : TablePlace k t e.0 (reached is.0 is.1) = subst (TablePlace k t e.0) is.2 here in
               laws.trans c is.0 _ (low e.0 is.0 is.1 e.1 e.2 is.2) (found.1.least w e.3))
         ]
 
-    -- so the best place that the runs offer v is its place on the board
-    pub best_place : (p : Place C) → BestInto k.kind k.runs t (length k.runs) v p → BoardPlace k t v p
-    best_place Absent none = no_way none
-    best_place (Reached c None) none = absurd none
-    best_place (Reached c (Some r)) best =
-        let found : TablePlace k t r (Reached c best.label.0) = subst (TablePlace k t r) best.label.1 (holds r best.among) in
+    best_by : (c : C) (b : Option ℕ) → BestBy k.kind k.runs t (length k.runs) v c b → BoardPlace k t v (reached c b)
+    best_by c None none = absurd none
+    best_by c (Some r) best =
+        let found : TablePlace k t r (reached c best.label.0) = subst (TablePlace k t r) best.label.1 (holds r best.among) in
         let way = found.1 in (
           (found.0, record { among = subst (λ (b : ℕ). LeadsTo k b found.0) best.into way.among.1; costs = way.costs; least = least c best.lowest }),
           (away, best.into, best.label),
         )
 
+    -- so the best place that the runs offer v is its place on the board
+    pub best_place : (p : Place C) → BestInto k.kind k.runs t (length k.runs) v p → BoardPlace k t v p
+    best_place None none = no_way none
+    best_place (Some p) best = best_by p.cost p.run best
+
   -- the best places that the runs offer, and then the home's, make a board
   pub board_holds : (t b : List (Place C)) (c : C) (n : ℕ) → TableHolds k t → k.home < length b → c ≡ k.kind.start
       → ((v : ℕ) → v < n → BestInto k.kind k.runs t (length k.runs) v (place b v))
-      → (v : ℕ) → v < n → BoardPlace k t v (place (set b k.home (Reached c None)) v)
+      → (v : ℕ) → v < n → BoardPlace k t v (place (set b k.home (reached c None)) v)
   board_holds t b c n holds room start best v lt = elim (cases_eq v k.home) [
-    | inl home ↦ subst (BoardPlace k t v) (sym (ap (place (set b k.home (Reached c None))) home ∙ get_or-set_same b k.home (Reached c None) Absent room)) (home_place t v c home start)
-    | inr away ↦ subst (BoardPlace k t v) (sym (get_or-set_other b k.home v (Reached c None) Absent away)) (best_place t holds v away (place b v) (best v lt))
+    | inl home ↦ subst (BoardPlace k t v) (sym (ap (place (set b k.home (reached c None))) home ∙ get_or-set_same b k.home (reached c None) None room)) (home_place t v c home start)
+    | inr away ↦ subst (BoardPlace k t v) (sym (get_or-set_other b k.home v (reached c None) None away)) (best_place t holds v away (place b v) (best v lt))
   ]

@@ -1,12 +1,11 @@
 -- From what a search over the runs leaves to what a survey and a route promise of a rig.
 use Rattle.std.proofs.Common.{◌≡◌, ℕ, ◌<◌, ◌≤◌, List, [], ◌∷◌, ◌++◌, length, drop, Some, None, sym, refl, ◌∙◌, subst, subst₂, arith}
-use Rattle.std.proofs.lemmas.List.{take_at, drop_at, length-take, get_or-take}
+use Rattle.std.proofs.lemmas.List.{take_at, drop_at}
 use Rattle.std.proofs.lemmas.Bool.{and_parts, ltb-true}
 use Rattle.std.proofs.lemmas.Bool.Decides.{nat_tests}
 use Rattle.track.specs.declared.run.Run.{Run}
-use Rattle.track.specs.declared.layout.Layout.{Layout}
+use Rattle.track.specs.declared.rig.Rig.{Rig}
 use Rattle.track.specs.Sizes.{points}
-use Rattle.track.specs.Runs.{idle}
 use Rattle.track.specs.Answers.{Answer, gave, refused}
 use Rattle.track.specs.Map.{Map, Call}
 use Rattle.track.specs.Map.Call.{Survey, Route}
@@ -15,9 +14,7 @@ use Rattle.track.proofs.History.{left_is, one_more}
 use Rattle.walks.specs.Kinds.{Kind}
 use Rattle.walks.specs.Rules.{Rule}
 use Rattle.walks.specs.Cheapest.{Task, task, LeadsTo, Cheapest}
-use Rattle.routing.specs.declared.place.Place.{Place}
-use Rattle.routing.specs.declared.place.Place.TheVariants.{Reached}
-use Rattle.routing.specs.Tables.{TablePlace, TableHolds, BoardPlace, BoardHolds}
+use Rattle.routing.specs.Tables.{Place, reached, TablePlace, TableHolds, BoardPlace, BoardHolds}
 use Rattle.routing.specs.Survey.{survey_answer, TableLeft, BoardLeft, SurveyDone}
 use Rattle.routing.specs.Route.{route_checks, Routed, RouteLeft, RouteDone}
 use Rattle.routing.specs.Offers.{HeadsBelow}
@@ -25,13 +22,8 @@ use Rattle.routing.specs.Chains.{Chain}
 use Rattle.routing.proofs.Places.{in_table}
 
 -- the runs of a rig lead to numbered points
-pub heads_below : (l : Layout) → HeadsBelow (map_of l).runs points
-heads_below l r lt =
-    let laid = l.table.laid in
-    let runs = l.table.runs in
-    let below : r < laid = omega (arith, length-take laid runs) in
-    let head = (and_parts _ _ (and_parts _ _ (l.sound r below)).1).0 in
-    subst (λ (x : Run). x.head < points) (sym (get_or-take laid runs r idle below)) (ltb-true _ _ head)
+pub heads_below : {S : Type 0} (l : Rig S) → HeadsBelow (map_of l).runs points
+heads_below l r lt = ltb-true _ _ (and_parts _ _ (and_parts _ _ (l.sound r lt)).1).0
 
 -- what is so where no refusal applies
 pub survey_clear : (m : Map) (home places room : ℕ) → gave tt ≡ survey_answer m home places room → (home < points) × (length m.runs ≤ places) × (points ≤ room)
@@ -97,12 +89,12 @@ module _ {C : Type 0} (k : Kind C) (rule : Rule) (home : ℕ) (m : Map) where
 
 -- the walk that the board's place of the mark stands for
 module _ {C : Type 0} (k : Task C) (t : List (Place C)) (mark : ℕ) (c : C) where
-  pub walk_home : (l : List ℕ) → BoardPlace k t mark (Reached c None) → Routed k mark l (gave (0, c)) l
+  pub walk_home : (l : List ℕ) → BoardPlace k t mark (reached c None) → Routed k mark l (gave (0, c)) l
   walk_home l (way, (home, start)) = ([], record { among = (sym home, tt); costs = sym start; least = way.1.least }, tt, refl, refl)
 
-  pub walk_by : (r : ℕ) → TableHolds k t → length t ≡ length k.runs → BoardPlace k t mark (Reached c (Some r)) → (w : List ℕ) × Cheapest k (LeadsTo k mark) w c × Chain t r w
+  pub walk_by : (r : ℕ) → TableHolds k t → length t ≡ length k.runs → BoardPlace k t mark (reached c (Some r)) → (w : List ℕ) × Cheapest k (LeadsTo k mark) w c × Chain t r w
   walk_by r holds n (way, (away, into, (b, is))) =
-      let found : TablePlace k t r (Reached c b) = subst (TablePlace k t r) is (holds r (omega (arith, in_table t r c b is))) in (
+      let found : TablePlace k t r (reached c b) = subst (TablePlace k t r) is (holds r (omega (arith, in_table t r c b is))) in (
         found.0,
         record { among = subst (λ (v : ℕ). LeadsTo k v found.0) into found.1.among.1; costs = found.1.costs; least = way.1.least },
         record { ends = found.1.among.0; linked = found.3; once = found.2 },

@@ -3,9 +3,7 @@ use Rattle.std.proofs.Common.{◌≡◌, ℕ, Bool, true, false, List, [], ◌�
 use Rattle.std.proofs.lemmas.Bool.{both_ways}
 use Rattle.walks.specs.Walks.{Missing, NoRepeat}
 use Rattle.walks.proofs.Net.{Net, Way, way_more}
-use Rattle.routing.specs.declared.place.Place.{Place}
-use Rattle.routing.specs.declared.place.Place.TheVariants.{Reached}
-use Rattle.routing.specs.Tables.{place, Linked}
+use Rattle.routing.specs.Tables.{Place, place, reached, Linked}
 
 -- every run of the list is taken
 abbrev pub AllTaken : (ℕ → Bool) → List ℕ → Type 0
@@ -42,7 +40,7 @@ apart_more (q ∷ v) r (h, apart) (ne, out) = (missing_more q v r h (λ e. ne (s
 
 module _ {C : Type 0} where
   -- one run more, with the last one as its run before
-  linked_more : (t : List (Place C)) (b : Option ℕ) (v : List ℕ) (u r : ℕ) (c : C) → Linked t b (v ++ u ∷ []) → place t r ≡ Reached c (Some u) → Linked t b ((v ++ u ∷ []) ++ r ∷ [])
+  linked_more : (t : List (Place C)) (b : Option ℕ) (v : List ℕ) (u r : ℕ) (c : C) → Linked t b (v ++ u ∷ []) → place t r ≡ reached c (Some u) → Linked t b ((v ++ u ∷ []) ++ r ∷ [])
   linked_more t b [] u r c (a, is, end) at = (a, is, (c, at, tt))
   linked_more t b (q ∷ v) u r c (a, is, rest) at = (a, is, linked_more t (Some q) v u r c rest at)
 
@@ -59,7 +57,7 @@ module _ {C : Type 0} where
         record { way = trail.way; linked = linked_kept t t' D' kept None v r same all trail.linked; apart = trail.apart; before = all }
 
     -- the trail of a run that was labelled from the run u, which is taken now
-    pub trail_more : (v : List ℕ) (u r : ℕ) (b c : C) → D' u ≡ true → D' r ≡ false → N.after u r b ≡ Some c → place t' r ≡ Reached c (Some u) → Trail N t D v u b → Trail N t' D' (v ++ u ∷ []) r c
+    pub trail_more : (v : List ℕ) (u r : ℕ) (b c : C) → D' u ≡ true → D' r ≡ false → N.after u r b ≡ Some c → place t' r ≡ reached c (Some u) → Trail N t D v u b → Trail N t' D' (v ++ u ∷ []) r c
     trail_more v u r b c here waits go at trail =
         let now = trail_kept v u b (kept u here) trail in
         let all = all_more D' v u now.before here in

@@ -5,9 +5,7 @@ use Rattle.walks.specs.Kinds.{Lawful, Le}
 use Rattle.walks.specs.Cheapest.{Task, price, EndsWith}
 use Rattle.walks.proofs.Net.{Net, LawfulNet, Below, Has, Starts, Closes, bound, below_refl, below_flip, way_fits}
 use Rattle.walks.proofs.Ways.{net, net_laws, walk_way, way_walk, none_some}
-use Rattle.routing.specs.declared.place.Place.{Place}
-use Rattle.routing.specs.declared.place.Place.TheVariants.{Absent, Reached}
-use Rattle.routing.specs.Tables.{place, TablePlace, TableHolds}
+use Rattle.routing.specs.Tables.{Place, place, reached, TablePlace, TableHolds}
 use Rattle.routing.specs.Steps.{cost_in, label, begun, lower, improved}
 use Rattle.routing.proofs.Trails.{Trail, trail_kept, trail_more}
 
@@ -33,33 +31,33 @@ pub record Turn {C : Type 0} (N : Net C) (t t' : List (Place C)) (D D' : ℕ →
 
 module _ {C : Type 0} {N : Net C} (laws : LawfulNet N) where
   -- a place that is improved has a label not above the one it had, and not above the offer
-  lower_keeps : (u : ℕ) (c : C) (p : Place C) (l x : C) → cost_in p ≡ Some l → Below N l x → (d : C) × (cost_in (cond (lower N.at_most c p) (Reached c (Some u)) p) ≡ Some d) × Below N d x
-  lower_keeps u c Absent l x is low = absurd (none_some None l refl is)
-  lower_keeps u c (Reached a b) l x is low = let same : a ≡ l = cc in go (N.at_most a c) refl same
+  lower_keeps : (u : ℕ) (c : C) (p : Place C) (l x : C) → cost_in p ≡ Some l → Below N l x → (d : C) × (cost_in (cond (lower N.at_most c (cost_in p)) (reached c (Some u)) p) ≡ Some d) × Below N d x
+  lower_keeps u c None l x is low = absurd (none_some None l refl is)
+  lower_keeps u c (Some p) l x is low = let same : p.cost ≡ l = cc in go (N.at_most p.cost c) refl same
     where
-      go : (v : Bool) → N.at_most a c ≡ v → a ≡ l → (d : C) × (cost_in (cond (not v) (Reached c (Some u)) (Reached a b)) ≡ Some d) × Below N d x
+      go : (v : Bool) → N.at_most p.cost c ≡ v → p.cost ≡ l → (d : C) × (cost_in (cond (not v) (reached c (Some u)) (Some p)) ≡ Some d) × Below N d x
       go true le same = (l, is, low)
-      go false le same = (c, refl, laws.trans c l x (subst (λ (z : C). Below N c z) same (below_flip laws a c le)) low)
+      go false le same = (c, refl, laws.trans c l x (subst (λ (z : C). Below N c z) same (below_flip laws p.cost c le)) low)
 
   improved_keeps : (u : ℕ) (o : Option C) (p : Place C) (l x : C) → cost_in p ≡ Some l → Below N l x → (d : C) × (cost_in (improved N.at_most u o p) ≡ Some d) × Below N d x
   improved_keeps u None p l x is low = (l, is, low)
   improved_keeps u (Some c) p l x is low = lower_keeps u c p l x is low
 
   improved_meets : (u : ℕ) (c : C) (p : Place C) → (d : C) × (cost_in (improved N.at_most u (Some c) p) ≡ Some d) × Below N d c
-  improved_meets u c Absent = (c, refl, below_refl laws c)
-  improved_meets u c (Reached a b) = go (N.at_most a c) refl
+  improved_meets u c None = (c, refl, below_refl laws c)
+  improved_meets u c (Some p) = go (N.at_most p.cost c) refl
     where
-      go : (v : Bool) → N.at_most a c ≡ v → (d : C) × (cost_in (cond (not v) (Reached c (Some u)) (Reached a b)) ≡ Some d) × Below N d c
-      go true le = (a, refl, le)
+      go : (v : Bool) → N.at_most p.cost c ≡ v → (d : C) × (cost_in (cond (not v) (reached c (Some u)) (Some p)) ≡ Some d) × Below N d c
+      go true le = (p.cost, refl, le)
       go false le = (c, refl, below_refl laws c)
 
 -- an improved place is the old one, or holds the offer
-improved_from : {C : Type 0} (at_most : C → C → Bool) (u : ℕ) (o : Option C) (p : Place C) (d : C) → cost_in (improved at_most u o p) ≡ Some d → (improved at_most u o p ≡ p) ⊎ ((o ≡ Some d) × (improved at_most u o p ≡ Reached d (Some u)))
+improved_from : {C : Type 0} (at_most : C → C → Bool) (u : ℕ) (o : Option C) (p : Place C) (d : C) → cost_in (improved at_most u o p) ≡ Some d → (improved at_most u o p ≡ p) ⊎ ((o ≡ Some d) × (improved at_most u o p ≡ reached d (Some u)))
 improved_from at_most u None p d is = inl refl
-improved_from {C} at_most u (Some c) p d is = go (lower at_most c p) is
+improved_from {C} at_most u (Some c) p d is = go (lower at_most c (cost_in p)) is
   where
-    go : (v : Bool) → cost_in (cond v (Reached c (Some u)) p) ≡ Some d → (cond v (Reached c (Some u)) p ≡ p) ⊎ ((Some c ≡ Some d) × (cond v (Reached c (Some u)) p ≡ Reached d (Some u)))
-    go true is = inr (is, (let same : c ≡ d = cc in ap (λ (z : C). Reached z (Some u)) same))
+    go : (v : Bool) → cost_in (cond v (reached c (Some u)) p) ≡ Some d → (cond v (reached c (Some u)) p ≡ p) ⊎ ((Some c ≡ Some d) × (cond v (reached c (Some u)) p ≡ reached d (Some u)))
+    go true is = inr (is, (let same : c ≡ d = cc in ap (λ (z : C). reached z (Some u)) same))
     go false is = inl refl
 
 some_same : {C : Type 0} (o : Option C) (a c : C) → o ≡ Some a → o ≡ Some c → a ≡ c
@@ -82,7 +80,7 @@ module _ {C : Type 0} {N : Net C} (laws : LawfulNet N) {t t' : List (Place C)} {
   offered : (r : ℕ) → D' r ≡ false → place t' r ≡ improved N.at_most u (N.after u r c) (place t r)
   offered r h = turn.now r ∙ ap (λ (b : Bool). cond b (place t r) (improved N.at_most u (N.after u r c) (place t r))) h
 
-  from : (r : ℕ) (d : C) → label t' r ≡ Some d → (place t' r ≡ place t r) ⊎ ((D' r ≡ false) × (N.after u r c ≡ Some d) × (place t' r ≡ Reached d (Some u)))
+  from : (r : ℕ) (d : C) → label t' r ≡ Some d → (place t' r ≡ place t r) ⊎ ((D' r ≡ false) × (N.after u r c ≡ Some d) × (place t' r ≡ reached d (Some u)))
   from r d is = elim (cases_Bool (D' r)) [
     | inl h ↦ inl (kept r h)
     | inr f ↦ (let e = offered r f in
@@ -148,9 +146,9 @@ module _ {C : Type 0} {N : Net C} (laws : LawfulNet N) {t t' : List (Place C)} {
   pub good_after : Good N t' D'
   good_after = record { started = λ r x go. not_worse r x (good.started r x go); labelled = labelled'; closed = closed'; ordered = ordered'; traced = traced' }
 
-begun_from : {C : Type 0} (o : Option C) (c : C) → cost_in (begun o) ≡ Some c → (o ≡ Some c) × (begun o ≡ Reached c None)
+begun_from : {C : Type 0} (o : Option C) (c : C) → cost_in (begun o) ≡ Some c → (o ≡ Some c) × (begun o ≡ reached c None)
 begun_from None c is = absurd (none_some None c refl is)
-begun_from {C} (Some a) c is = (is, (let same : a ≡ c = cc in ap (λ (x : C). Reached x None) same))
+begun_from {C} (Some a) c is = (is, (let same : a ≡ c = cc in ap (λ (x : C). reached x None) same))
 
 -- before any run is taken
 pub good_begun : {C : Type 0} (N : Net C) → LawfulNet N → (t : List (Place C)) (D : ℕ → Bool) → ((r : ℕ) → D r ≡ false) → ((r : ℕ) → place t r ≡ begun (N.first r)) → Good N t D
@@ -172,8 +170,9 @@ module _ {C : Type 0} (k : Task C) (laws : Lawful k.kind) (t : List (Place C)) (
   least r w ends = bound (net_laws k laws) good.started closes w r (price k w) (walk_way k w r ends)
 
   holds_at : (r : ℕ) (p : Place C) → place t r ≡ p → TablePlace k t r p
-  holds_at r Absent is = λ w ends. (let m = least r w ends in none_some (label t r) m.0 (ap cost_in is) m.1)
-  holds_at r (Reached c b) is =
+  holds_at r None is = λ w ends. (let m = least r w ends in none_some (label t r) m.0 (ap cost_in is) m.1)
+  holds_at r (Some p) is =
+      let c = p.cost in
       let m = good.traced r c (ap cost_in is) in
       let n = way_walk k (m.0 ++ r ∷ []) r c m.1.way in
       let low : (w : List ℕ) → EndsWith k r w → Le k.kind c (price k w) = λ w ends. (let h = least r w ends in

@@ -2,14 +2,12 @@
 use Rattle.std.specs.Prelude.{◌≡◌, ℕ, List, Some, None, Option}
 use Rattle.walks.specs.Walks.{NoRepeat}
 use Rattle.walks.specs.Cheapest.{last}
-use Rattle.routing.specs.declared.place.Place.{Place}
-use Rattle.routing.specs.declared.place.Place.TheVariants.{Absent, Reached}
-use Rattle.routing.specs.Tables.{Linked}
+use Rattle.routing.specs.Tables.{Place, Linked}
 
 -- the run before, of a run with this place
 abbrev pub before : {C : Type 0} → Place C → Option ℕ
-before Absent = None
-before (Reached c b) = b
+before None = None
+before (Some p) = p.run
 
 -- followed back from the run `end`, the table gives the walk w, which repeats no run
 pub record Chain {C : Type 0} (t : List (Place C)) (end : ℕ) (w : List ℕ) : Type 0 where

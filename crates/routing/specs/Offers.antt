@@ -4,26 +4,28 @@ use Rattle.track.specs.declared.run.Run.{Run}
 use Rattle.track.specs.Runs.{idle}
 use Rattle.walks.specs.Kinds.{Kind, Le}
 use Rattle.walks.specs.Walks.{run_at}
-use Rattle.routing.specs.declared.place.Place.{Place}
-use Rattle.routing.specs.declared.place.Place.TheVariants.{Absent, Reached}
-use Rattle.routing.specs.Tables.{place}
+use Rattle.routing.specs.Tables.{Place, place, reached}
 
 -- c is above no cost that one of the first n runs has in the table t and offers the point v
 abbrev pub LowestInto : {C : Type 0} → Kind C → List Run → List (Place C) → (n v : ℕ) → C → Type 0
-LowestInto {C} k m t n v c = (r : ℕ) (d : C) (b : Option ℕ) → r < n → (run_at m r).head ≡ v → place t r ≡ Reached d b → Le k c d
+LowestInto {C} k m t n v c = (r : ℕ) (d : C) (b : Option ℕ) → r < n → (run_at m r).head ≡ v → place t r ≡ reached d b → Le k c d
 
 -- of the first n runs, r offers the point v the lowest cost, which is c
 pub record BestRun {C : Type 0} (k : Kind C) (m : List Run) (t : List (Place C)) (n v : ℕ) (c : C) (r : ℕ) : Type 0 where
   pub among : r < n
   pub into : (run_at m r).head ≡ v
-  pub label : (b : Option ℕ) × (place t r ≡ Reached c b)
+  pub label : (b : Option ℕ) × (place t r ≡ reached c b)
   pub lowest : LowestInto k m t n v c
+
+-- the lowest cost that the first n runs offer the point v is c, and this run offers it
+abbrev pub BestBy : {C : Type 0} → Kind C → List Run → List (Place C) → (n v : ℕ) → C → Option ℕ → Type 0
+BestBy k m t n v c None = ⊥
+BestBy k m t n v c (Some r) = BestRun k m t n v c r
 
 -- the best place that the first n runs offer the point v
 abbrev pub BestInto : {C : Type 0} → Kind C → List Run → List (Place C) → (n v : ℕ) → Place C → Type 0
-BestInto k m t n v Absent = (r : ℕ) → r < n → (run_at m r).head ≡ v → place t r ≡ Absent
-BestInto k m t n v (Reached c None) = ⊥
-BestInto k m t n v (Reached c (Some r)) = BestRun k m t n v c r
+BestInto k m t n v None = (r : ℕ) → r < n → (run_at m r).head ≡ v → place t r ≡ None
+BestInto k m t n v (Some p) = BestBy k m t n v p.cost p.run
 
 -- every run leads to one of the points below n
 abbrev pub HeadsBelow : List Run → (n : ℕ) → Type 0

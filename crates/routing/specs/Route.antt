@@ -7,7 +7,7 @@ use Rattle.walks.specs.Kinds.{Kind}
 use Rattle.walks.specs.Rules.{Rule}
 use Rattle.walks.specs.Walks.{NoRepeat}
 use Rattle.walks.specs.Cheapest.{Task, task, LeadsTo, NoWalk, Cheapest}
-use Rattle.routing.specs.declared.place.Place.{Place}
+use Rattle.routing.specs.Tables.{Place}
 use Rattle.routing.specs.Survey.{TableLeft}
 
 -- the refusals that need no search, in their order

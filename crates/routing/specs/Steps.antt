@@ -5,14 +5,12 @@ use Rattle.walks.specs.Kinds.{Kind}
 use Rattle.walks.specs.Rules.{Rule}
 use Rattle.walks.specs.Walks.{run_at}
 use Rattle.walks.specs.Moves.{begin_cost, follow_cost}
-use Rattle.routing.specs.declared.place.Place.{Place}
-use Rattle.routing.specs.declared.place.Place.TheVariants.{Absent, Reached}
-use Rattle.routing.specs.Tables.{place}
+use Rattle.routing.specs.Tables.{Place, place, reached}
 
 -- the cost that a place holds: the label of its run
 abbrev pub cost_in : {C : Type 0} → Place C → Option C
-cost_in Absent = None
-cost_in (Reached c b) = Some c
+cost_in None = None
+cost_in (Some p) = Some p.cost
 
 abbrev pub label : {C : Type 0} → List (Place C) → ℕ → Option C
 label t r = cost_in (place t r)
@@ -23,25 +21,21 @@ taken_at d r = slice_index_or d r false
 
 -- a place before any run is taken, for a run that begins a walk at this cost, if it does
 abbrev pub begun : {C : Type 0} → Option C → Place C
-begun None = Absent
-begun (Some c) = Reached c None
+begun None = None
+begun (Some c) = reached c None
 
 abbrev pub Begun : {C : Type 0} → Kind C → (home : ℕ) → List Run → List (Place C) → Type 0
 Begun k home m t = (r : ℕ) → place t r ≡ begun (begin_cost k home (run_at m r))
 
--- whether a cost is below what a place holds; where the place is absent, every cost is
-abbrev pub lower : {C : Type 0} → (C → C → Bool) → C → Place C → Bool
-lower at_most c Absent = true
-lower at_most c (Reached l b) = not (at_most l c)
-
--- whether a label is below the lowest so far, or is the first that was found
-abbrev pub first : {C : Type 0} → (C → C → Bool) → (label : C) → (found : Bool) → (lowest : C) → Bool
-first at_most l found c = cond found (not (at_most c l)) true
+-- whether a cost is below the other; where there is no other, every cost is
+abbrev pub lower : {C : Type 0} → (C → C → Bool) → C → (other : Option C) → Bool
+lower at_most c None = true
+lower at_most c (Some other) = not (at_most other c)
 
 -- a place once the run u offers this cost, if it does
 abbrev pub improved : {C : Type 0} → (C → C → Bool) → (u : ℕ) → Option C → Place C → Place C
 improved at_most u None p = p
-improved at_most u (Some c) p = cond (lower at_most c p) (Reached c (Some u)) p
+improved at_most u (Some c) p = cond (lower at_most c (cost_in p)) (reached c (Some u)) p
 
 -- place r of the table t once the run u, reached at cost c, is taken; d marks the runs taken
 abbrev pub relaxed : {C : Type 0} → Kind C → Rule → List Run → List Bool → (u : ℕ) → C → List (Place C) → (r : ℕ) → Place C

@@ -6,8 +6,7 @@ use Rattle.track.specs.Map.{Map}
 use Rattle.walks.specs.Kinds.{Kind}
 use Rattle.walks.specs.Rules.{Rule}
 use Rattle.walks.specs.Cheapest.{Task, task}
-use Rattle.routing.specs.declared.place.Place.{Place}
-use Rattle.routing.specs.Tables.{TableHolds, BoardHolds}
+use Rattle.routing.specs.Tables.{Place, TableHolds, BoardHolds}
 
 abbrev pub survey_answer : Map → (home places room : ℕ) → Answer (Unit {0})
 survey_answer m home places room =

@@ -2,11 +2,10 @@ ghost use Rattle.std.specs.Prelude.{◌≡◌, ℕ, ◌<◌, ◌≤◌, length};
 ghost use Rattle.track.specs.Sizes.{points, most_runs};
 ghost use Rattle.walks.specs.Rules.{Rule};
 ghost use Rattle.walks.specs.Cheapest.{task};
-ghost use Rattle.routing.specs.declared.place.Place.TheVariants.{Absent};
 ghost use Rattle.routing.specs.Tables.{place as place_at, TableHolds, BoardPlace, BoardHolds};
 ghost use Rattle.routing.specs.Offers.{BestInto, HeadsBelow};
 
-use crate::place::Place;
+use crate::place::{Place, Reached};
 use crate::search::improve;
 use track::run::Run;
 use walks::kind::CostKind;
@@ -21,10 +20,10 @@ fn best_into<K: CostKind>(
     requires { (length table.now ≡ length runs.now) × (length runs.now ≤ most_runs) }
     ensures { BestInto (K.CostKind.meaning kind.now) runs.now table.now (length runs.now) point result }
 {
-    let mut best = Place::Absent;
-    for run in 0..runs.len() {
-        if runs[run].head == point {
-            improve(kind, run as u16, table[run].cost(), &mut best);
+    let mut best = None;
+    for (i, run) in runs.iter().enumerate() {
+        if run.head == point {
+            improve(kind, i as u16, table[i].map(|place| place.cost), &mut best);
         }
     }
     best
@@ -42,21 +41,12 @@ pub(crate) fn place_of<K: CostKind>(
     ensures { (t : Rule) → TableHolds (task (K.CostKind.meaning kind.now) t runs.now home) table.now → BoardPlace (task (K.CostKind.meaning kind.now) t runs.now home) table.now point result }
 {
     if point == home {
-        Place::Reached {
+        Some(Reached {
             cost: kind.start(),
             run: None,
-        }
+        })
     } else {
         best_into(kind, runs, table, point)
-    }
-}
-
-/// Makes each place absent.
-fn clear<C: Copy>(board: &mut [Place<C>])
-    ensures { (v : ℕ) → place_at board.new v ≡ Absent }
-{
-    for place in board.iter_mut() {
-        *place = Place::Absent;
     }
 }
 
@@ -69,12 +59,17 @@ fn offer_runs<K: CostKind>(
 )
     requires laid { (length table.now ≡ length runs.now) × (length runs.now ≤ most_runs) }
     requires heads { HeadsBelow runs.now (length board.old) }
-    requires cleared { (v : ℕ) → place_at board.old v ≡ Absent }
+    requires cleared { (v : ℕ) → place_at board.old v ≡ None }
     ensures { (v : ℕ) → v < length board.old → BestInto (K.CostKind.meaning kind.now) runs.now table.now (length runs.now) v (place_at board.new v) }
 {
-    for run in 0..runs.len() {
-        let head = runs[run].head as usize;
-        improve(kind, run as u16, table[run].cost(), &mut board[head]);
+    for (i, run) in runs.iter().enumerate() {
+        let head = usize::from(run.head);
+        improve(
+            kind,
+            i as u16,
+            table[i].map(|place| place.cost),
+            &mut board[head],
+        );
     }
 }
 
@@ -91,10 +86,10 @@ pub(crate) fn fill_board<K: CostKind>(
     requires room { (length board.old ≡ points) × (home < points) }
     ensures { (t : Rule) → TableHolds (task (K.CostKind.meaning kind.now) t runs.now home) table.now → BoardHolds (task (K.CostKind.meaning kind.now) t runs.now home) table.now board.new }
 {
-    clear(board);
+    board.fill(None);
     offer_runs(kind, runs, table, board);
-    board[home as usize] = Place::Reached {
+    board[usize::from(home)] = Some(Reached {
         cost: kind.start(),
         run: None,
-    };
+    });
 }

@@ -9,11 +9,7 @@ fn run_before<C: Copy>(table: &[Place<C>], run: u16) -> Option<u16>
     requires { run < length table.now }
     ensures { result ≡ before (place_at table.now run) }
 {
-    let place = table[run as usize];
-    match place {
-        Place::Absent => None,
-        Place::Reached { cost: _, run } => run,
-    }
+    table[usize::from(run)]?.run
 }
 
 /// The number of runs of the walk that ends with `end`.
@@ -36,6 +32,7 @@ fn write_back<C: Copy>(table: &[Place<C>], end: u16, walk: &mut [u16])
     ensures { (w : List ℕ) → Chain table.now end w → length w ≡ length walk.old → walk.new ≡ w }
 {
     let mut at = end;
+    // By place: once places lent for writing are turned round, a proof knows nothing of what was written.
     for i in (0..walk.len()).rev() {
         walk[i] = at;
         at = run_before(table, at).unwrap_or(at);

@@ -1,7 +1,9 @@
-ghost use Rattle.std.specs.Prelude.{◌≡◌};
-ghost use Rattle.routing.specs.Refusals.{number as number_of};
+ghost use Rattle.std.specs.Prelude.{◌≡◌, Some};
+ghost use Rattle.routing.specs.Refusals.{number as number_of, reason};
 
-/// Why a survey or a route was refused.
+use std::fmt;
+
+/// Why a survey or a route was refused, with the number by which it is told.
 #[derive(Clone, Copy, Drop, PartialEq, Eq, Debug)]
 pub enum SearchRefusal {
     /// A home or a mark above 127.
@@ -16,11 +18,24 @@ pub enum SearchRefusal {
     NoWay = 11,
 }
 
-impl SearchRefusal {
-    /// The number by which the refusal is told.
-    pub fn number(self) -> u8
-        ensures { result ≡ number_of self }
-    {
-        self as u8
+impl From<SearchRefusal> for u8 {
+    ghost from_gives = { λ refusal n. n ≡ number_of refusal };
+
+    fn from(refusal: SearchRefusal) -> u8 {
+        refusal as u8
+    }
+}
+
+impl fmt::Display for SearchRefusal {
+    ghost output = { λ refusal. Some (reason refusal) };
+
+    fn fmt<W: fmt::Write>(&self, f: &mut fmt::Formatter<W>) -> fmt::Result {
+        f.write_str(match self {
+            SearchRefusal::NoPoint => "point above 127",
+            SearchRefusal::TableShort => "work table too short",
+            SearchRefusal::ListShort => "list too short",
+            SearchRefusal::BoardShort => "board too short",
+            SearchRefusal::NoWay => "no way",
+        })
     }
 }

@@ -11,10 +11,10 @@ ghost use Rattle.routing.specs.Route.{route_checks, Routed, RouteDone};
 
 use crate::board::place_of;
 use crate::follow::follow_back;
-use crate::place::Place;
+use crate::place::{Place, Reached};
 use crate::refusal::SearchRefusal;
 use crate::search::search;
-use track::rig::Show;
+use track::rig::{Rig, Show};
 use track::run::{POINTS, Run};
 use walks::kind::CostKind;
 use walks::rule::HandoverRule;
@@ -25,7 +25,7 @@ use walks::rule::HandoverRule;
 /// Refuses with 1 a home or a mark above 127, with 8 a table and with 9 a list that has fewer places than runs were laid;
 /// table and list are then as they were. Refuses with 11 where no legal walk leads to the mark; the list is then as it was.
 pub fn route<K: CostKind, R: HandoverRule>(
-    rig: &Show,
+    rig: &Rig<Show>,
     kind: &K,
     rule: &R,
     home: u8,
@@ -33,8 +33,8 @@ pub fn route<K: CostKind, R: HandoverRule>(
     table: &mut [Place<K::Cost>],
     list: &mut [u16],
 ) -> Result<(usize, K::Cost), SearchRefusal>
-    ensures done { RouteDone (K.CostKind.meaning kind.now) (R.HandoverRule.table rule.now) (map_of rig.now.layout) home mark table.old list.old (told number result) table.new list.new }
-    ensures law { (calls : List Call) → LeftBy calls (map_of rig.now.layout) → RouteDone (K.CostKind.meaning kind.now) (R.HandoverRule.table rule.now) (map_after calls) home mark table.old list.old (told number result) table.new list.new × LeftBy (calls ++ Route ∷ []) (map_of rig.now.layout) }
+    ensures done { RouteDone (K.CostKind.meaning kind.now) (R.HandoverRule.table rule.now) (map_of rig.now) home mark table.old list.old (told number result) table.new list.new }
+    ensures law { (calls : List Call) → LeftBy calls (map_of rig.now) → RouteDone (K.CostKind.meaning kind.now) (R.HandoverRule.table rule.now) (map_after calls) home mark table.old list.old (told number result) table.new list.new × LeftBy (calls ++ Route ∷ []) (map_of rig.now) }
 {
     check_route(rig, home, mark, table.len(), list.len())?;
     let runs = rig.runs();
@@ -43,14 +43,15 @@ pub fn route<K: CostKind, R: HandoverRule>(
 }
 
 /// The first refusal that applies before any search, with so many places in the table and in the list.
+// Beside the one of a survey: the mark is tested between the two tests that they share, so one function for both is no plainer.
 fn check_route(
-    rig: &Show,
+    rig: &Rig<Show>,
     home: u8,
     mark: u8,
     places: usize,
     room: usize,
 ) -> Result<(), SearchRefusal>
-    ensures { told number result ≡ route_checks (map_of rig.now.layout) home mark places room }
+    ensures { told number result ≡ route_checks (map_of rig.now) home mark places room }
 {
     if home as usize >= POINTS || mark as usize >= POINTS {
         return Err(SearchRefusal::NoPoint);
@@ -80,12 +81,12 @@ fn route_runs<K: CostKind, R: HandoverRule>(
     ensures routed { Routed (task (K.CostKind.meaning kind.now) (R.HandoverRule.table rule.now) runs.now home) mark list.old (told number result) list.new }
 {
     search(kind, rule, runs, home, table);
-    let place = place_of(kind, runs, home, table, mark);
-    match place {
-        Place::Absent => Err(SearchRefusal::NoWay),
-        Place::Reached { cost, run } => match run {
-            None => Ok((0, cost)),
-            Some(end) => Ok((follow_back(table, end, list), cost)),
-        },
-    }
+    let Reached { cost, run } = place_of(kind, runs, home, table, mark).ok_or(
+        SearchRefusal::NoWay,
+    )?;
+    let count = match run {
+        None => 0,
+        Some(end) => follow_back(table, end, list),
+    };
+    Ok((count, cost))
 }

@@ -3,9 +3,9 @@ ghost use Rattle.track.specs.Sizes.{most_runs};
 ghost use Rattle.walks.specs.Cheapest.{task};
 ghost use Rattle.walks.specs.Moves.{begin_cost};
 ghost use Rattle.routing.specs.Tables.{TableHolds};
-ghost use Rattle.routing.specs.Steps.{begun, Begun, lower, first, improved, Relaxed, NoneWaits, Lowest};
+ghost use Rattle.routing.specs.Steps.{begun, Begun, lower, improved, Relaxed, NoneWaits, Lowest};
 
-use crate::place::Place;
+use crate::place::{Place, Reached};
 use track::run::{MOST_RUNS, Run};
 use walks::kind::CostKind;
 use walks::rule::HandoverRule;
@@ -22,22 +22,16 @@ struct Waiting<C> {
 fn begin<K: CostKind>(kind: &K, home: u8, run: Run) -> Place<K::Cost>
     ensures { result ≡ begun (begin_cost (K.CostKind.meaning kind.now) home run) }
 {
-    match begin_cost(kind, home, run) {
-        Some(cost) => Place::Reached { cost, run: None },
-        None => Place::Absent,
-    }
+    begin_cost(kind, home, run).map(|cost| Reached { cost, run: None })
 }
 
-/// Whether `cost` is below what `place` holds.
-fn is_lower<K: CostKind>(kind: &K, cost: K::Cost, place: Place<K::Cost>) -> bool
-    ensures { result ≡ lower (K.CostKind.meaning kind.now).at_most cost place }
+/// Whether `cost` is below the other cost, or there is no other.
+fn is_lower<K: CostKind>(kind: &K, cost: K::Cost, other: Option<K::Cost>) -> bool
+    ensures { result ≡ lower (K.CostKind.meaning kind.now).at_most cost other }
 {
-    match place {
-        Place::Absent => true,
-        Place::Reached {
-            cost: label,
-            run: _,
-        } => !kind.at_most(label, cost),
+    match other {
+        None => true,
+        Some(other) => !kind.at_most(other, cost),
     }
 }
 
@@ -51,11 +45,11 @@ pub(crate) fn improve<K: CostKind>(
     ensures { place.new ≡ improved (K.CostKind.meaning kind.now).at_most run offer place.old }
 {
     if let Some(cost) = offer {
-        if is_lower(kind, cost, *place) {
-            *place = Place::Reached {
+        if is_lower(kind, cost, place.map(|held| held.cost)) {
+            *place = Some(Reached {
                 cost,
                 run: Some(run),
-            };
+            });
         }
     }
 }
@@ -65,16 +59,9 @@ fn begin_all<K: CostKind>(kind: &K, home: u8, runs: &[Run], table: &mut [Place<K
     requires { length table.old ≡ length runs.now }
     ensures { Begun (K.CostKind.meaning kind.now) home runs.now table.new }
 {
-    for (i, run) in runs.iter().enumerate() {
-        table[i] = begin(kind, home, *run);
+    for (run, place) in table.iter_mut().enumerate() {
+        *place = begin(kind, home, runs[run]);
     }
-}
-
-/// Whether `label` is below the lowest label so far, or is the first that was found.
-fn goes_first<K: CostKind>(kind: &K, label: K::Cost, found: bool, lowest: K::Cost) -> bool
-    ensures { result ≡ first (K.CostKind.meaning kind.now).at_most label found lowest }
-{
-    !found || !kind.at_most(lowest, label)
 }
 
 /// A waiting run with a lowest label, if any labelled run waits.
@@ -86,30 +73,20 @@ fn next_waiting<K: CostKind>(
     requires { length table.now ≤ length taken.now }
     ensures { MatchOption result (NoneWaits table.now taken.now (length table.now)) (λ x. Lowest (K.CostKind.meaning kind.now).at_most table.now taken.now (length table.now) x.run x.cost) }
 {
-    let mut found = false;
-    let mut run = 0;
-    let mut cost = kind.start();
-    for i in 0..table.len() {
-        if !taken[i] {
-            let place = table[i];
-            if let Place::Reached {
-                cost: label,
-                run: _,
-            } = place
-            {
-                if goes_first(kind, label, found, cost) {
-                    found = true;
-                    run = i;
-                    cost = label;
+    let mut lowest: Option<Waiting<K::Cost>> = None;
+    for (run, place) in table.iter().enumerate() {
+        if !taken[run] {
+            if let Some(place) = place {
+                if is_lower(kind, place.cost, lowest.map(|low| low.cost)) {
+                    lowest = Some(Waiting {
+                        run,
+                        cost: place.cost,
+                    });
                 }
             }
         }
     }
-    if found {
-        Some(Waiting { run, cost })
-    } else {
-        None
-    }
+    lowest
 }
 
 /// Offers each waiting run what follows from the run just taken.
@@ -129,11 +106,10 @@ fn relax<K: CostKind, R: HandoverRule>(
     let Waiting { run, cost } = from;
     let last = runs[run];
     let before = run as u16;
-    for i in 0..runs.len() {
-        let offer = follow(kind, rule, last, runs[i], cost);
-        if !taken[i] {
-            improve(kind, before, offer, &mut table[i]);
-        }
+    for (next, place) in table.iter_mut().enumerate() {
+        let waits = !taken[next];
+        let offer = follow(kind, rule, last, runs[next], cost).filter(|_| waits);
+        improve(kind, before, offer, place);
     }
 }
 

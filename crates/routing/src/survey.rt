@@ -14,7 +14,7 @@ use crate::board::fill_board;
 use crate::place::Place;
 use crate::refusal::SearchRefusal;
 use crate::search::search;
-use track::rig::Show;
+use track::rig::{Rig, Show};
 use track::run::{POINTS, Run};
 use walks::kind::CostKind;
 use walks::rule::HandoverRule;
@@ -24,15 +24,15 @@ use walks::rule::HandoverRule;
 /// Refuses with 1 a home above 127, with 8 a table with fewer places than runs were laid, and with 10 a board with fewer than 128.
 /// A refused survey leaves table and board as they were.
 pub fn survey<K: CostKind, R: HandoverRule>(
-    rig: &Show,
+    rig: &Rig<Show>,
     kind: &K,
     rule: &R,
     home: u8,
     table: &mut [Place<K::Cost>],
     board: &mut [Place<K::Cost>],
 ) -> Result<(), SearchRefusal>
-    ensures done { SurveyDone (K.CostKind.meaning kind.now) (R.HandoverRule.table rule.now) (map_of rig.now.layout) home table.old board.old (told number result) table.new board.new }
-    ensures law { (calls : List Call) → LeftBy calls (map_of rig.now.layout) → SurveyDone (K.CostKind.meaning kind.now) (R.HandoverRule.table rule.now) (map_after calls) home table.old board.old (told number result) table.new board.new × LeftBy (calls ++ Survey ∷ []) (map_of rig.now.layout) }
+    ensures done { SurveyDone (K.CostKind.meaning kind.now) (R.HandoverRule.table rule.now) (map_of rig.now) home table.old board.old (told number result) table.new board.new }
+    ensures law { (calls : List Call) → LeftBy calls (map_of rig.now) → SurveyDone (K.CostKind.meaning kind.now) (R.HandoverRule.table rule.now) (map_after calls) home table.old board.old (told number result) table.new board.new × LeftBy (calls ++ Survey ∷ []) (map_of rig.now) }
 {
     check_survey(rig, home, table.len(), board.len())?;
     let runs = rig.runs();
@@ -49,8 +49,8 @@ pub fn survey<K: CostKind, R: HandoverRule>(
 }
 
 /// The first refusal that applies, with so many places in the table and on the board.
-fn check_survey(rig: &Show, home: u8, places: usize, room: usize) -> Result<(), SearchRefusal>
-    ensures { told number result ≡ survey_answer (map_of rig.now.layout) home places room }
+fn check_survey(rig: &Rig<Show>, home: u8, places: usize, room: usize) -> Result<(), SearchRefusal>
+    ensures { told number result ≡ survey_answer (map_of rig.now) home places room }
 {
     if home as usize >= POINTS {
         return Err(SearchRefusal::NoPoint);

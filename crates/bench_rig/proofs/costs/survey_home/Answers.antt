@@ -6,5 +6,5 @@ use Rattle.bench_rig.proofs.costs.survey_home.Goals as goal
 
 pub returns : goal.returns
 returns c =
-    row_of (pair_rule c.args.rule.now.settings) (map_of c.args.rig.now.layout) c.args.home c.args.table.now c.args.board.now _ c.survey.new.table c.survey.new.board _
-    c.requires.0 (omega (arith, few_runs c.args.rig.now.layout, c.requires.1.0)) c.requires.1.1.0 (omega (arith, c.requires.1.1.0, c.survey.auto.board)) c.survey.ensures.done c.write_costs.ensures
+    row_of (pair_rule c.args.rule.now.settings) (map_of c.args.rig.now) c.args.home c.args.table.now c.args.board.now _ c.survey.new.table c.survey.new.board _
+    c.requires.0 (omega (arith, few_runs c.args.rig.now, c.requires.1.0)) c.requires.1.1.0 (omega (arith, c.requires.1.1.0, c.survey.auto.board)) c.survey.ensures.done c.write_costs.ensures

@@ -11,5 +11,5 @@ survey_home-requires c =
 
 pub loop-home-preserved : goal.loop-home-preserved
 loop-home-preserved c =
-    row_more _ c.loop-home.home _ c.args.costs.now c.loop-home.costs c.survey_home.new.row (omega arith) (omega (arith, c.requires.rows, c.loop-home.auto.costs))
-    (omega (arith, simp (length-take, length-drop) at c.survey_home.auto.row, c.requires.rows, c.loop-home.auto.costs)) c.survey_home.ensures c.loop-home.invariant
+    rw c.from-at.ensures (row_more _ c.loop-home.home _ c.args.costs.now c.loop-home.costs c.survey_home.new.row (omega arith) (omega (arith, c.requires.rows, c.loop-home.auto.costs))
+    (omega (arith, simp (length-take, length-drop) at c.survey_home.auto.row, c.requires.rows, c.loop-home.auto.costs)) c.survey_home.ensures c.loop-home.invariant)

@@ -10,5 +10,5 @@ use Rattle.company.proofs.worn.least_worn.Goals as goal
 -- the setting is 0
 pub returns : goal.returns
 returns c =
-    subst (λ (s : ℕ). RouteDone wear_kind (isolated (flat_rule s) c.args.winch) (map_of c.args.rig.now.layout) c.args.home c.args.mark c.args.table.now c.args.list.now (told number c.route.result) c.route.new.table c.route.new.list)
+    subst (λ (s : ℕ). RouteDone wear_kind (isolated (flat_rule s) c.args.winch) (map_of c.args.rig.now) c.args.home c.args.mark c.args.table.now c.args.list.now (told number c.route.result) c.route.new.table c.route.new.list)
     c.new.ensures c.route.ensures.done

@@ -1,5 +1,5 @@
 use Rattle.routing.specs.Offers.{BestInto}
 use Rattle.routing.proofs.board.best_into.Given as goal
 
-abbrev pub invariant-loop-run : goal.invariant-loop-run
-invariant-loop-run g l = BestInto (g.K.CostKind.meaning l.kind) l.runs l.table l.run l.point l.best
+abbrev pub invariant-loop-i : goal.invariant-loop-i
+invariant-loop-i g l = BestInto (g.K.CostKind.meaning l.kind) l.runs l.table l.i l.point l.best

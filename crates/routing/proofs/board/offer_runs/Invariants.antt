@@ -3,6 +3,6 @@ use Rattle.routing.specs.Tables.{place}
 use Rattle.routing.specs.Offers.{BestInto}
 use Rattle.routing.proofs.board.offer_runs.Given as goal
 
-abbrev pub invariant-loop-run : goal.invariant-loop-run
-invariant-loop-run g l =
-    (v : ℕ) → v < length l.initial.board → BestInto (g.K.CostKind.meaning l.kind) l.runs l.table l.run v (place l.board v)
+abbrev pub invariant-loop-i : goal.invariant-loop-i
+invariant-loop-i g l =
+    (v : ℕ) → v < length l.initial.board → BestInto (g.K.CostKind.meaning l.kind) l.runs l.table l.i v (place l.board v)

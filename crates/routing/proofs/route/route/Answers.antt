@@ -11,7 +11,7 @@ pub returns-in_err-check_route : goal.returns-in_err-check_route
 returns-in_err-check_route g c =
     let k = g.K.CostKind.meaning c.args.kind.now in
     let t = g.R.HandoverRule.table c.args.rule.now in
-    let m = map_of c.args.rig.now.layout in
+    let m = map_of c.args.rig.now in
     let p = err_from_is_err_and c.from_residual.result c.from_residual.ensures.1 in
     rw (p.1, p.2)
     (route_promise k t c.args.home m c.args.mark c.args.table.now c.args.list.now _ _ _ (route_refused k t c.args.home m c.args.table.now c.args.mark c.args.list.now _ c.in_err-check_route.ensures))
@@ -20,7 +20,7 @@ pub returns : goal.returns
 returns g c =
     let k = g.K.CostKind.meaning c.args.kind.now in
     let t = g.R.HandoverRule.table c.args.rule.now in
-    let m = map_of c.args.rig.now.layout in
+    let m = map_of c.args.rig.now in
     let runs = c.runs-runs.result.now in
     let table = c.args.table.now in
     let list = c.args.list.now in

@@ -5,7 +5,7 @@ use Rattle.routing.specs.Tables.{place}
 use Rattle.routing.specs.Steps.{begun}
 use Rattle.routing.proofs.search.begin_all.Given as goal
 
-abbrev pub invariant-loop-i : goal.invariant-loop-i
-invariant-loop-i g l =
-    ((r : ℕ) → r < l.i → place l.table r ≡ begun (begin_cost (g.K.CostKind.meaning l.kind) l.home (run_at l.runs r)))
-    × ((r : ℕ) → l.i ≤ r → place l.table r ≡ place l.initial.table r)
+abbrev pub invariant-loop-run : goal.invariant-loop-run
+invariant-loop-run g l =
+    ((r : ℕ) → r < l.run → place l.table r ≡ begun (begin_cost (g.K.CostKind.meaning l.kind) l.home (run_at l.runs r)))
+    × ((r : ℕ) → l.run ≤ r → place l.table r ≡ place l.initial.table r)

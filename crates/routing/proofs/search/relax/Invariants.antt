@@ -3,7 +3,7 @@ use Rattle.routing.specs.Tables.{place}
 use Rattle.routing.specs.Steps.{relaxed}
 use Rattle.routing.proofs.search.relax.Given as goal
 
-abbrev pub invariant-loop-i : goal.invariant-loop-i
-invariant-loop-i g l =
-    ((r : ℕ) → r < l.i → place l.table r ≡ relaxed (g.K.CostKind.meaning l.kind) (g.R.HandoverRule.table l.rule) l.runs l.taken l.run l.cost l.initial.table r)
-    × ((r : ℕ) → l.i ≤ r → place l.table r ≡ place l.initial.table r)
+abbrev pub invariant-loop-next : goal.invariant-loop-next
+invariant-loop-next g l =
+    ((r : ℕ) → r < l.next → place l.table r ≡ relaxed (g.K.CostKind.meaning l.kind) (g.R.HandoverRule.table l.rule) l.runs l.taken l.run l.cost l.initial.table r)
+    × ((r : ℕ) → l.next ≤ r → place l.table r ≡ place l.initial.table r)

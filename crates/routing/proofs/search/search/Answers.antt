@@ -1,17 +1,17 @@
-use Rattle.std.proofs.Common.{◌≡◌, length, refl, ◌∙◌, arith}
+use Rattle.std.proofs.Common.{false, ◌≡◌, length, refl, ◌∙◌, arith}
 use Rattle.std.proofs.lemmas.List.{length-set}
 use Rattle.track.specs.Sizes.{most_runs}
 use Rattle.walks.specs.Cheapest.{task}
 use Rattle.walks.proofs.Ways.{net, net_laws}
 use Rattle.routing.specs.Steps.{taken_at}
 use Rattle.routing.proofs.Turns.{good_begun, good_holds}
-use Rattle.routing.proofs.Loops.{label_in, lowest_in, waiting_falls, none_taken, turn_more}
+use Rattle.routing.proofs.Loops.{label_in, lowest_in, waiting_falls, same_everywhere, turn_more}
 use Rattle.routing.proofs.search.search.Goals as goal
 
 pub loop-next-init : goal.loop-next-init
 loop-next-init g c =
     let k = task (g.K.CostKind.meaning c.args.kind.now) (g.R.HandoverRule.table c.args.rule.now) c.args.runs.now c.args.home in
-    (refl, good_begun (net k) (net_laws k (g.met.K.CostKind.lawful c.args.kind.now)) c.begin_all.new.table _ (none_taken most_runs) c.begin_all.ensures)
+    (refl, good_begun (net k) (net_laws k (g.met.K.CostKind.lawful c.args.kind.now)) c.begin_all.new.table _ (λ r. same_everywhere most_runs r false) c.begin_all.ensures)
 
 pub bounds-taken-next : goal.bounds-taken-next
 bounds-taken-next g c =

@@ -12,18 +12,18 @@ pub returns-in_err-check_survey : goal.returns-in_err-check_survey
 returns-in_err-check_survey g c =
     let k = g.K.CostKind.meaning c.args.kind.now in
     let t = g.R.HandoverRule.table c.args.rule.now in
-    let m = map_of c.args.rig.now.layout in
+    let m = map_of c.args.rig.now in
     let p = err_from_is_err_and c.from_residual.result c.from_residual.ensures.1 in
     rw (p.1, p.2)
     (survey_promise k t c.args.home m c.args.table.now c.args.board.now _ _ _ (survey_refused k t c.args.home m c.args.table.now c.args.board.now _ c.in_err-check_survey.ensures))
 
 pub survey_runs-requires : goal.survey_runs-requires
 survey_runs-requires g c =
-    let clear = survey_clear (map_of c.args.rig.now.layout) c.args.home (length c.args.table.now) (length c.args.board.now) c.in_ok-check_survey.ensures in
+    let clear = survey_clear (map_of c.args.rig.now) c.args.home (length c.args.table.now) (length c.args.board.now) c.in_ok-check_survey.ensures in
     let same = ap length c.runs-runs.ensures.value in
     record {
       laid = (simp length-take (omega arith), c.runs-runs.ensures.bound);
-      heads = subst (λ (m : List Run). HeadsBelow m points) (sym c.runs-runs.ensures.value) (heads_below c.args.rig.now.layout);
+      heads = subst (λ (m : List Run). HeadsBelow m points) (sym c.runs-runs.ensures.value) (heads_below c.args.rig.now);
       room = (simp length-take (omega arith), clear.0);
     }
 
@@ -31,7 +31,7 @@ pub returns : goal.returns
 returns g c =
     let k = g.K.CostKind.meaning c.args.kind.now in
     let t = g.R.HandoverRule.table c.args.rule.now in
-    let m = map_of c.args.rig.now.layout in
+    let m = map_of c.args.rig.now in
     let runs = c.runs-runs.result.now in
     let table = c.args.table.now in
     let board = c.args.board.now in
