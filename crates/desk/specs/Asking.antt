@@ -1,31 +1,40 @@
--- What a question that is put to a desk answers, and what it leaves in the list of runs.
-use Rattle.std.specs.Prelude.{◌≡◌, ℕ, List, Ok, Err, Result}
+-- What a question that is put to a desk answers.
+use Rattle.std.specs.Prelude.{◌≡◌, ℕ, List, Some, None, Ok, Err, Result}
 use Rattle.track.specs.Sizes.{most_runs}
 use Rattle.track.specs.Answers.{Answer, gave, refused}
-use Rattle.track.specs.Map.{Map}
-use Rattle.walks.specs.Cheapest.{Task}
+use Rattle.track.specs.Map.{Map, blank}
+use Rattle.walks.specs.Rules.{Rule}
 use Rattle.routing.specs.declared.refusal.SearchRefusal.{SearchRefusal}
 use Rattle.routing.specs.Refusals.{number}
-use Rattle.routing.specs.Route.{route_checks, Routed}
+use Rattle.routing.specs.Route.{route_checks}
 use Rattle.tape.specs.declared.command.KindName.{KindName}
 use Rattle.desk.specs.declared.rules.Rules.{Rules}
-use Rattle.desk.specs.declared.ask.Found.{Found}
-use Rattle.desk.specs.Desks.{Desk, question}
+use Rattle.desk.specs.declared.ask.Route.{Route}
+use Rattle.desk.specs.Desks.{Desk, named_rule, RightReply}
 
 -- a map beside rules of the code
 abbrev pub desk_of : Map → Rules → Desk
 desk_of m t = record { map = m; flat = t.flat.setting; point = t.point.settings; pair = t.pair.settings; rule = t.in_force }
 
--- the checks that need no search, and then what a route promises; the work table is the desk's own
-abbrev pub Asked : {C : Type 0} → Answer (Unit {0}) → Task C → (mark : ℕ) → (l : List ℕ) → Answer (ℕ × C) → (l' : List ℕ) → Type 0
-Asked (refused n) k mark l answer l' = (answer ≡ refused n) × (l' ≡ l)
-Asked (gave x) k mark l answer l' = Routed k mark l answer l'
+-- the rule by which these rules judge, whatever the map
+abbrev pub rule_in_force : Rules → Rule
+rule_in_force t = named_rule (desk_of blank t) t.in_force
 
--- an answer of the code: the number of runs and the cost
-abbrev pub told_found : Result Found SearchRefusal → Answer (ℕ × ℕ)
-told_found (Ok f) = gave (f.runs, f.cost)
-told_found (Err e) = refused (number e)
+-- an answer of the code: the cost and the runs
+abbrev pub told_route : Result Route SearchRefusal → Answer (ℕ × List ℕ)
+told_route (Ok r) = gave (r.cost, r.runs.items)
+told_route (Err e) = refused (number e)
 
--- What a question promises on a desk, of a list that was l and is l'.
-abbrev pub AskDone : Desk → KindName → (home mark : ℕ) → (l : List ℕ) → Answer (ℕ × ℕ) → (l' : List ℕ) → Type 0
-AskDone d kind home mark l answer l' = Asked (route_checks d.map home mark most_runs most_runs) (question d kind home) mark l answer l'
+-- a search's answer to a question: a right reply, which is the refusal 11 where there is no way
+abbrev pub Answered : Desk → KindName → (home mark : ℕ) → Answer (ℕ × List ℕ) → Type 0
+Answered d kind home mark (gave route) = RightReply d kind home mark (Some route)
+Answered d kind home mark (refused n) = (n ≡ 11) × RightReply d kind home mark None
+
+-- the checks that need no search, and then the search
+abbrev pub Asked : Answer (Unit {0}) → Desk → KindName → (home mark : ℕ) → Answer (ℕ × List ℕ) → Type 0
+Asked (refused n) d kind home mark answer = answer ≡ refused n
+Asked (gave x) d kind home mark answer = Answered d kind home mark answer
+
+-- What a question promises on a desk. Work table and list are the desk's own, and have room for every run.
+abbrev pub AskDone : Desk → KindName → (home mark : ℕ) → Answer (ℕ × List ℕ) → Type 0
+AskDone d kind home mark answer = Asked (route_checks d.map home mark most_runs most_runs) d kind home mark answer

@@ -3,10 +3,8 @@ use Rattle.std.specs.Prelude.{◌≡◌, ℕ, List}
 use Rattle.track.specs.Sizes.{points, most_runs}
 use Rattle.track.specs.Answers.{Answer, gave, refused}
 use Rattle.walks.specs.Cheapest.{Task}
-use Rattle.routing.specs.declared.place.Place.{Place}
-use Rattle.routing.specs.declared.place.Place.TheVariants.{Absent, Reached}
+use Rattle.routing.specs.Tables.{Place, TableHolds, BoardHolds}
 use Rattle.routing.specs.Survey.{survey_answer}
-use Rattle.routing.specs.Tables.{TableHolds, BoardHolds}
 use Rattle.tape.specs.declared.command.KindName.{KindName}
 use Rattle.desk.specs.Desks.{Desk, question}
 
@@ -22,10 +20,3 @@ Looked k b (refused n) b' = b' ≡ b
 -- What a survey promises on a desk, of a board with a place for each point.
 abbrev pub LookDone : Desk → KindName → (home : ℕ) → (b : List (Place ℕ)) → Answer (Unit {0}) → (b' : List (Place ℕ)) → Type 0
 LookDone d kind home b answer b' = (answer ≡ survey_answer d.map home most_runs points) × Looked (question d kind home) b answer b'
-
--- the one place is the other with its cost converted
-abbrev pub Converted : {C W : Type 0} → (C → W → Type 0) → Place C → Place W → Type 0
-Converted converts Absent Absent = Unit {0}
-Converted converts Absent (Reached w b) = ⊥
-Converted converts (Reached c b) Absent = ⊥
-Converted converts (Reached c b) (Reached w b') = converts c w × (b' ≡ b)

@@ -8,7 +8,7 @@ ghost use Rattle.kobrinza.specs.Reports.{layer_code, Reported};
 use player::fault::Layer;
 use player::play::play;
 
-/// What a play came to, in plain numbers. The console's header lists them.
+/// What a play came to, in plain numbers, since C has no `Option` and no enum that holds a value. The console's header lists them.
 #[repr(C)]
 #[derive(Clone, Copy, Drop)]
 pub struct Report {
@@ -48,7 +48,7 @@ pub extern "C" fn kobrinza_play(tape: &[u8], listing: &mut [u8]) -> Report
         Some(fault) => Report {
             len,
             place: fault.place,
-            fault: fault.layer.number() as u32,
+            fault: u32::from(u8::from(fault.layer)),
             layer: code_of(fault.layer),
         },
         None => Report {

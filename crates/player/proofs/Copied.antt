@@ -1,7 +1,7 @@
 -- A tape that was written and then played.
 use Rattle.std.proofs.Common.{◌≡◌, ℕ, Bool, true, false, cond, ltb, List, ◌++◌, length, take, drop, Option, sym, refl, ap, ◌∙◌, subst, arith}
 use Rattle.std.proofs.lemmas.List.{take_at}
-use Rattle.track.specs.declared.layout.Layout.{Layout}
+use Rattle.track.specs.declared.rig.Rig.{Rig}
 use Rattle.track.specs.Answers.{gave, refused}
 use Rattle.track.specs.Map.{Map}
 use Rattle.track.specs.Calls.{map_of}
@@ -23,7 +23,7 @@ tape_stands m was is n (a, w) = go (ltb (length was) (length (tape_of m))) refl 
         (ap (take n) u ∙ take_at (tape_of m) (drop (length (tape_of m)) was) n (sym size), t)
 
 -- and whatever plays it has the map of the rig that was written
-pub copied : (l : Layout) (was is : List ℕ) (n : ℕ) → WriteDone (map_of l) was (gave n) is
+pub copied : {S : Type 0} (l : Rig S) (was is : List ℕ) (n : ℕ) → WriteDone (map_of l) was (gave n) is
     → (before later : List ℕ) (rig : Map) (len : ℕ) (fault : Option ToldFault) → PlayDone (take n is) before rig len fault later → CopyDone (map_of l) was (gave rig) is
 copied l was is n done before later rig len fault p =
     let t = tape_stands (map_of l) was is n done in

@@ -1,5 +1,3 @@
-pub mod Fields
-pub mod Replies
 pub mod Outcomes
 pub mod Turns
 pub mod Undisturbed

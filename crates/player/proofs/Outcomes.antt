@@ -6,9 +6,10 @@ use Rattle.tape.specs.declared.refusal.TapeCause.{TapeCause}
 use Rattle.tape.specs.Refusals.{cause_number}
 use Rattle.tape.specs.Commands.{Said}
 use Rattle.tape.specs.Reading.{Read, decode}
+use Rattle.desk.specs.Desks.{Desk, Reply, RightReply}
 use Rattle.player.specs.Faults.{LayerName, in_tape, in_listing}
-use Rattle.player.specs.Lines.{Reply, line_of}
-use Rattle.player.specs.Play.{Desk, Step, done, failed, asked, step, RightReply, Item, then, items, Outcome, ends, faults, behind, goes, played, RightStep, RepliesRight}
+use Rattle.player.specs.Lines.{line_of}
+use Rattle.player.specs.Play.{Step, done, failed, asked, step, Item, then, items, Outcome, ends, faults, behind, goes, played, RightStep, RepliesRight}
 
 -- with some right replies, these commands come to o
 pub record May (d : Desk) (is : List Item) (room : ℕ) (o : Outcome) : Type 0 where

@@ -9,8 +9,9 @@ use Rattle.track.specs.Answers.{Answer, gave, if_gave}
 use Rattle.track.specs.Map.{Map, lay_answer, run_answer, stricken, altered}
 use Rattle.tape.specs.Commands.{lay, strike}
 use Rattle.tape.specs.Tape.{numbered, run_commands}
+use Rattle.desk.specs.Desks.{Desk, with_map}
 use Rattle.player.specs.Faults.{in_map}
-use Rattle.player.specs.Play.{Desk, with_map, step, done, unless_refused}
+use Rattle.player.specs.Play.{step, done, unless_refused}
 use Rattle.player.proofs.Undisturbed.{AllDone, done_append}
 
 -- the desk with these runs and names on its map

@@ -11,8 +11,9 @@ use Rattle.track.specs.Answers.{Answer, gave, if_gave}
 use Rattle.track.specs.Map.{Map, name_answer}
 use Rattle.tape.specs.Commands.{name}
 use Rattle.tape.specs.Tape.{numbered, name_commands}
+use Rattle.desk.specs.Desks.{Desk, with_map}
 use Rattle.player.specs.Faults.{in_map}
-use Rattle.player.specs.Play.{Desk, with_map, step, done, unless_refused}
+use Rattle.player.specs.Play.{step, done, unless_refused}
 use Rattle.player.proofs.Undisturbed.{AllDone, done_append}
 use Rattle.player.proofs.Relaid.{holding}
 

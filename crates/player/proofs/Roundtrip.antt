@@ -1,13 +1,14 @@
 -- The tape written from any rig, played into a new one, gives an equal rig.
-use Rattle.std.proofs.Common.{◌≡◌, ℕ, ◌<◌, [], ◌++◌, length, drop, replicate, refl, ap, ◌∙◌, subst, arith}
-use Rattle.std.proofs.lemmas.List.{length-take-le, get_or-take}
+use Rattle.std.proofs.Common.{◌≡◌, ℕ, [], ◌++◌, length, drop, replicate, refl, ap, ◌∙◌, subst, arith}
+use Rattle.track.specs.declared.rig.Rig.{Rig}
 use Rattle.track.specs.Sizes.{points}
-use Rattle.track.specs.Runs.{run_ok, idle, no_name}
+use Rattle.track.specs.Runs.{no_name}
 use Rattle.track.specs.Map.{Map}
 use Rattle.track.specs.Calls.{map_of}
 use Rattle.tape.specs.Tape.{numbered, run_commands, name_commands, commands_of, tape_of}
-use Rattle.player.specs.Play.{new_desk, with_map, Outcome}
-use Rattle.player.specs.Roundtrip.{SoundMap, RigsAreSound, RoundTrip, EqualRig, TapesPlayBack}
+use Rattle.desk.specs.Desks.{new_desk, with_map}
+use Rattle.player.specs.Play.{Outcome}
+use Rattle.player.specs.Roundtrip.{SoundMap, RoundTrip, EqualMap, TapesPlayBack}
 use Rattle.player.proofs.Undisturbed.{AllDone, done_append}
 use Rattle.player.proofs.Spool.{done_plays, done_asks_nothing}
 use Rattle.player.proofs.Relaid.{holding, runs_again}
@@ -29,20 +30,13 @@ round_trip m s =
       makes_it = done_plays 0 new_desk (with_map new_desk m) (commands_of m) (all_again m s);
     }
 
-pub rigs_are_sound : RigsAreSound
-rigs_are_sound l =
-    let size : length (map_of l).runs ≡ l.table.laid = length-take-le l.table.laid l.table.runs (omega arith) in
-    record {
-      room = omega arith;
-      sound = λ k h. let in_table : k < l.table.laid = omega arith in
-          ap run_ok (get_or-take l.table.laid l.table.runs k idle in_table) ∙ l.sound k in_table;
-      named = l.named;
-      legible = l.legible;
-    }
+-- in either state
+sound_rig : {S : Type 0} (rig : Rig S) → SoundMap (map_of rig)
+sound_rig rig = record { room = rig.room; sound = rig.sound; named = rig.named; legible = rig.legible }
 
-pub equal_rig : EqualRig
+pub equal_rig : {S : Type 0} (rig : Rig S) → EqualMap (map_of rig)
 equal_rig l was is rig len fault p =
-    let e = (round_trip (map_of l) (rigs_are_sound l)).makes_it p.replies (length was) in
+    let e = (round_trip (map_of l) (sound_rig l)).makes_it p.replies (length was) in
     let none : len ≡ 0 = p.len_is ∙ ap (λ (o : Outcome). length o.text) e in
     let same = p.rig_is ∙ ap (λ (o : Outcome). o.desk.map) e in (
       (ap (λ (m : Map). m.runs) same, ap (λ (m : Map). m.names) same),
@@ -52,4 +46,4 @@ equal_rig l was is rig len fault p =
     )
 
 pub tapes_play_back : TapesPlayBack
-tapes_play_back = (round_trip, rigs_are_sound, equal_rig)
+tapes_play_back = (round_trip, (sound_rig, sound_rig), (equal_rig, equal_rig))

@@ -4,8 +4,8 @@ use Rattle.std.specs.List.{flat_map}
 use Rattle.tape.specs.Commands.{Said, lay, strike, retime, name, set_flat, set_point, set_pair, use_rule, ask, bytes_of}
 use Rattle.tape.specs.Reading.{Read, Sized, decode}
 use Rattle.tape.proofs.Back.{reads_back}
-use Rattle.player.specs.Lines.{Reply}
-use Rattle.player.specs.Play.{Desk, Item, Step, then, items, ends, goes, played, RightStep, RepliesRight}
+use Rattle.desk.specs.Desks.{Desk, Reply}
+use Rattle.player.specs.Play.{Item, Step, then, items, ends, goes, played, RightStep, RepliesRight}
 use Rattle.player.proofs.Undisturbed.{AllDone}
 
 -- a command that was read at this place

@@ -7,12 +7,13 @@ use Rattle.track.specs.Map.{Map}
 use Rattle.tape.specs.Commands.{Said}
 use Rattle.tape.specs.Reading.{Read, decode}
 use Rattle.tape.specs.Refusals.{cause_number}
+use Rattle.desk.specs.Desks.{Desk, new_desk}
 use Rattle.player.specs.declared.fault.Layer.{Layer}
 use Rattle.player.specs.declared.play.Turn.{Turn}
 use Rattle.player.specs.Faults.{LayerName, ToldFault, in_tape, in_listing, layer_number, layer_name}
 use Rattle.player.specs.Lines.{line_of}
 use Rattle.player.specs.Writing.{line_left}
-use Rattle.player.specs.Play.{Desk, new_desk, Step, done, failed, asked, step, Item, items, Outcome, ends, faults, behind, played, PlayDone}
+use Rattle.player.specs.Play.{Step, done, failed, asked, step, Item, items, Outcome, ends, faults, behind, played, PlayDone}
 use Rattle.player.specs.Obeying.{ToldTurn, line_told, Obeyed, Turned}
 use Rattle.player.proofs.Outcomes.{May, may_end, may_unread, may_done, may_fail, may_ask, may_lack, items_read, items_front, items_unread}
 

@@ -2,7 +2,8 @@
 use Rattle.std.proofs.Common.{◌≡◌, List, [], ◌∷◌, ◌++◌, sym, subst}
 use Rattle.tape.specs.Commands.{Said}
 use Rattle.tape.specs.Reading.{Sized}
-use Rattle.player.specs.Play.{Desk, step, done}
+use Rattle.desk.specs.Desks.{Desk}
+use Rattle.player.specs.Play.{step, done}
 
 abbrev pub AllDone : Desk → List Said → Desk → Type 0
 AllDone d [] e = d ≡ e

@@ -1,5 +1,6 @@
 -- What copy answers: a rig with the same map, where the tape has room.
 use Rattle.std.specs.Prelude.{◌≡◌, ℕ, List, [], ◌∷◌, length, Ok, Err, Result, nat_lt}
+use Rattle.track.specs.declared.rig.Rig.{Rig}
 use Rattle.track.specs.declared.rig.GetIn.{GetIn}
 use Rattle.track.specs.Answers.{Answer, gave, refused, check, unless}
 use Rattle.track.specs.Map.{Map}
@@ -9,8 +10,8 @@ use Rattle.tape.specs.Refusals.{number}
 use Rattle.tape.specs.Tape.{tape_of, written}
 
 -- the rig that copy gives, by its map
-abbrev pub told_copy : Result GetIn WriteRefusal → Answer Map
-told_copy (Ok rig) = gave (map_of rig.layout)
+abbrev pub told_copy : Result (Rig GetIn) WriteRefusal → Answer Map
+told_copy (Ok rig) = gave (map_of rig)
 told_copy (Err e) = refused (number e)
 
 -- a buffer that is shorter than the tape is refused with 17

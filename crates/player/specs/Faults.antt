@@ -1,5 +1,5 @@
--- The number of each fault, and the word of its layer.
-use Rattle.std.specs.Prelude.{ℕ, List, Some, None, codes, Option}
+-- The number of each fault, the word of its layer, and its text.
+use Rattle.std.specs.Prelude.{ℕ, List, ◌++◌, Some, None, codes, decimal, Option}
 use Rattle.track.specs.Refusals.{number as map_number}
 use Rattle.walks.specs.Refusals.{number as rule_number}
 use Rattle.routing.specs.Refusals.{number as search_number}
@@ -55,3 +55,7 @@ told_fault f = record { number = layer_number f.layer; place = f.place; layer = 
 abbrev pub told_faults : Option Fault → Option ToldFault
 told_faults None = None
 told_faults (Some f) = Some (told_fault f)
+
+-- the text that tells a fault: its number, its place and its layer
+abbrev pub fault_text : ToldFault → List ℕ
+fault_text f = codes "fault " ++ (decimal f.number ++ (codes " at " ++ (decimal f.place ++ (codes " in " ++ word f.layer))))

@@ -1,22 +1,28 @@
 -- What the code's desk holds, and what it makes of one command: for the inner functions of play.
-use Rattle.std.specs.Prelude.{◌≡◌, ℕ, cond, List, length, IfOk, Ok, Err, Result, nat_le}
-use Rattle.track.specs.Answers.{Answer, gave, refused}
+use Rattle.std.specs.Prelude.{◌≡◌, ℕ, cond, List, length, IfOk, Ok, Err, Option, Result, nat_le}
+use Rattle.track.specs.Sizes.{most_runs}
+use Rattle.track.specs.Answers.{gave, refused}
 use Rattle.track.specs.Calls.{map_of}
-use Rattle.walks.specs.Cheapest.{Task}
-use Rattle.routing.specs.Route.{Routed}
+use Rattle.routing.specs.declared.refusal.SearchRefusal.{SearchRefusal}
+use Rattle.routing.specs.Refusals.{number}
+use Rattle.routing.specs.Route.{route_checks}
+use Rattle.tape.specs.declared.command.KindName.{KindName}
 use Rattle.tape.specs.Refusals.{cause_number}
 use Rattle.tape.specs.Reading.{Read}
+use Rattle.desk.specs.declared.ask.Route.{Route}
+use Rattle.desk.specs.Desks.{Desk, Reply, RightReply}
+use Rattle.desk.specs.Asking.{desk_of}
 use Rattle.player.specs.declared.fault.Layer.{Layer}
-use Rattle.player.specs.declared.desk.Desk.{Desk as DeskKept}
+use Rattle.player.specs.declared.keeping.Desk.{Desk as DeskKept}
 use Rattle.player.specs.declared.play.Turn.{Turn}
 use Rattle.player.specs.Faults.{LayerName, in_tape, in_listing, layer_number, layer_name}
-use Rattle.player.specs.Lines.{Reply, line_of}
-use Rattle.player.specs.Writing.{line_left}
-use Rattle.player.specs.Play.{Desk, Step, step, done, failed, asked, RightReply}
+use Rattle.player.specs.Lines.{line_of}
+use Rattle.player.specs.Writing.{reply_of, line_left}
+use Rattle.player.specs.Play.{Step, step, done, failed, asked}
 
 -- the desk that the code keeps
-abbrev pub desk_of : DeskKept → Desk
-desk_of d = record { map = map_of d.rig.layout; flat = d.flat.setting; point = d.point.settings; pair = d.pair.settings; rule = d.rule }
+abbrev pub desk_in : DeskKept → Desk
+desk_in d = desk_of (map_of d.rig) d.rules
 
 -- a number of bytes, or the number and the layer of a fault
 abbrev pub ToldTurn : Type 0
@@ -26,10 +32,10 @@ abbrev pub told_turn : Result ℕ Layer → ToldTurn
 told_turn (Ok n) = Ok n
 told_turn (Err e) = Err (layer_number e, layer_name e)
 
--- what a route leaves but for its table, where the checks say this
-abbrev pub Found : {C : Type 0} → Answer (Unit {0}) → Task C → (mark : ℕ) → (l : List ℕ) → Answer (ℕ × C) → (l' : List ℕ) → Type 0
-Found (refused n) k mark l answer l' = answer ≡ refused n
-Found (gave x) k mark l answer l' = Routed k mark l answer l'
+-- What a question answers on the desk d, before it is told: a right reply, or the refusal that applies before any search.
+abbrev pub Found : Desk → KindName → (home mark : ℕ) → Result (Option Route) SearchRefusal → Type 0
+Found d kind home mark (Ok route) = (route_checks d.map home mark most_runs most_runs ≡ gave tt) × RightReply d kind home mark (reply_of route)
+Found d kind home mark (Err e) = route_checks d.map home mark most_runs most_runs ≡ refused (number e)
 
 -- the length of a line that fits, or else the fault 18
 abbrev pub line_told : (line was : List ℕ) → ToldTurn

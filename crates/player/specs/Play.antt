@@ -1,65 +1,18 @@
 -- What a tape plays: the rig, the listing and the fault, from the tape's bytes, the room in the listing and the replies to the questions.
-use Rattle.std.specs.Prelude.{◌≡◌, ℕ, zero, suc, pred, ◌-◌, cond, List, [], ◌∷◌, ◌++◌, length, drop, replicate, Some, None, Ok, Err, MatchBool, Option, Result, nat_le}
-use Rattle.track.specs.Sizes.{points, winches, most_runs}
+use Rattle.std.specs.Prelude.{◌≡◌, ℕ, zero, suc, pred, ◌-◌, cond, List, [], ◌∷◌, ◌++◌, length, drop, Some, None, Ok, Err, MatchBool, Option, Result, nat_le}
+use Rattle.track.specs.Sizes.{most_runs}
 use Rattle.track.specs.Answers.{Answer, gave, refused}
-use Rattle.track.specs.Map.{Map, blank, after, lay_answer, run_answer, name_answer}
+use Rattle.track.specs.Map.{Map, after, lay_answer, run_answer, name_answer}
 use Rattle.track.specs.Map.Call.{Lay, Strike, Retime, Name}
-use Rattle.walks.specs.Kinds.{Kind}
-use Rattle.walks.specs.Costs.{time_kind, strain_kind, handover_kind}
-use Rattle.walks.specs.Rules.{Rule}
-use Rattle.walks.specs.Settings.{flat_rule, point_rule, pair_rule, point_answer, point_after, pair_answer, pair_after}
-use Rattle.walks.specs.Walks.{NoRepeat}
-use Rattle.walks.specs.Cheapest.{Task, task, LeadsTo, NoWalk, Cheapest}
+use Rattle.walks.specs.Settings.{point_answer, point_after, pair_answer, pair_after}
 use Rattle.routing.specs.Route.{route_checks}
 use Rattle.tape.specs.declared.command.KindName.{KindName}
-use Rattle.tape.specs.declared.command.KindName.TheVariants.{Time, Strain, HandOvers}
-use Rattle.tape.specs.declared.command.RuleName.{RuleName}
-use Rattle.tape.specs.declared.command.RuleName.TheVariants.{Flat, Point, Pair}
 use Rattle.tape.specs.Refusals.{cause_number}
 use Rattle.tape.specs.Commands.{Said, lay, strike, retime, name, set_flat, set_point, set_pair, use_rule, ask}
 use Rattle.tape.specs.Reading.{Read, decode}
+use Rattle.desk.specs.Desks.{Desk, new_desk, with_map, with_flat, with_point, with_pair, with_rule, Reply, RightReply}
 use Rattle.player.specs.Faults.{LayerName, ToldFault, in_tape, in_map, in_rule, in_search, in_listing}
-use Rattle.player.specs.Lines.{Reply, line_of}
-
--- what a play keeps: the map, the settings of the three rules, and the rule for later questions
-pub record Desk : Type 0 where
-  pub map : Map
-  pub flat : ℕ
-  pub point : List ℕ
-  pub pair : List (List ℕ)
-  pub rule : RuleName
-
--- a new rig and new rules
-abbrev pub new_desk : Desk
-new_desk = record { map = blank; flat = 0; point = replicate points 0; pair = replicate winches (replicate winches 0); rule = Flat }
-
--- the same desk with one part altered
-abbrev pub with_map : Desk → Map → Desk
-with_map d m = record { map = m; flat = d.flat; point = d.point; pair = d.pair; rule = d.rule }
-
-abbrev pub with_flat : Desk → ℕ → Desk
-with_flat d s = record { map = d.map; flat = s; point = d.point; pair = d.pair; rule = d.rule }
-
-abbrev pub with_point : Desk → List ℕ → Desk
-with_point d s = record { map = d.map; flat = d.flat; point = s; pair = d.pair; rule = d.rule }
-
-abbrev pub with_pair : Desk → List (List ℕ) → Desk
-with_pair d s = record { map = d.map; flat = d.flat; point = d.point; pair = s; rule = d.rule }
-
-abbrev pub with_rule : Desk → RuleName → Desk
-with_rule d r = record { map = d.map; flat = d.flat; point = d.point; pair = d.pair; rule = r }
-
--- the rule by which a question is judged now
-abbrev pub named_rule : Desk → RuleName → Rule
-named_rule d Flat = flat_rule d.flat
-named_rule d Point = point_rule d.point
-named_rule d Pair = pair_rule d.pair
-
--- the kind that a question names
-abbrev pub named_kind : KindName → Kind ℕ
-named_kind Time = time_kind
-named_kind Strain = strain_kind
-named_kind HandOvers = handover_kind
+use Rattle.player.specs.Lines.{line_of}
 
 -- what a command comes to: the desk after it, a fault, or a question to be answered
 pub data Step : Type 0 where
@@ -82,14 +35,6 @@ step d (set_point point setting) = unless_refused in_rule (point_answer point) (
 step d (set_pair arriving leaving setting) = unless_refused in_rule (pair_answer arriving leaving) (done (with_pair d (pair_after d.pair arriving leaving setting)))
 step d (use_rule r) = done (with_rule d r)
 step d (ask kind home mark) = unless_refused in_search (route_checks d.map home mark most_runs most_runs) (asked kind home mark)
-
--- a reply is right on the map and by the rule of the desk: a cheapest legal walk that repeats no run, or no way where there is none
-abbrev pub question : Desk → KindName → (home : ℕ) → Task ℕ
-question d kind home = task (named_kind kind) (named_rule d d.rule) d.map.runs home
-
-abbrev pub RightReply : Desk → KindName → (home mark : ℕ) → Reply → Type 0
-RightReply d kind home mark None = NoWalk (LeadsTo (question d kind home) mark)
-RightReply d kind home mark (Some (cost, runs)) = Cheapest (question d kind home) (LeadsTo (question d kind home) mark) runs cost × NoRepeat runs
 
 -- the commands of a tape, each with the place of its first byte; one that cannot be read is the last
 pub record Item : Type 0 where

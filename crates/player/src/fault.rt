@@ -1,8 +1,9 @@
-ghost use Rattle.std.specs.Prelude.{◌≡◌};
-ghost use Rattle.player.specs.Faults.{layer_number, layer_name, word as word_of, listing_number};
+ghost use Rattle.std.specs.Prelude.{◌≡◌, Some};
+ghost use Rattle.player.specs.Faults.{layer_number, layer_name, word, listing_number, told_fault, fault_text};
 ghost use Rattle.player.specs.declared.fault.Layer.TheVariants.{Tape, Map, Rule, Search, Listing};
 
 use routing::refusal::SearchRefusal;
+use std::fmt;
 use tape::refusal::TapeCause;
 use track::refusal::MapRefusal;
 use walks::refusal::RuleRefusal;
@@ -14,17 +15,17 @@ pub enum ListingCause {
     NoRoom = 18,
 }
 
-impl ListingCause {
+impl From<ListingCause> for u8 {
+    ghost from_gives = { λ cause n. n ≡ listing_number cause };
+
     /// The number by which the cause is told.
-    pub fn number(self) -> u8
-        ensures { result ≡ listing_number self }
-    {
-        self as u8
+    fn from(cause: ListingCause) -> u8 {
+        cause as u8
     }
 }
 
 /// The layer at which a tape faulted, with that layer's own cause.
-#[derive(Clone, Copy, Drop)]
+#[derive(Clone, Copy, Drop, PartialEq, Eq, Debug)]
 pub enum Layer {
     /// The command could not be read.
     Tape(TapeCause),
@@ -38,31 +39,33 @@ pub enum Layer {
     Listing(ListingCause),
 }
 
-impl Layer {
+impl From<Layer> for u8 {
+    ghost from_gives = { λ layer n. n ≡ layer_number layer };
+
     /// The number of the fault: 14 to 16 of the tape, 18 of the listing, else that of the call's refusal.
-    pub fn number(self) -> u8
-        ensures { result ≡ layer_number self }
-    {
-        match self {
-            Layer::Tape(cause) => cause.number(),
-            Layer::Map(cause) => cause.number(),
-            Layer::Rule(cause) => cause.number(),
-            Layer::Search(cause) => cause.number(),
-            Layer::Listing(cause) => cause.number(),
+    fn from(layer: Layer) -> u8 {
+        match layer {
+            Layer::Tape(cause) => u8::from(cause),
+            Layer::Map(cause) => u8::from(cause),
+            Layer::Rule(cause) => u8::from(cause),
+            Layer::Search(cause) => u8::from(cause),
+            Layer::Listing(cause) => u8::from(cause),
         }
     }
+}
+
+impl fmt::Display for Layer {
+    ghost output = { λ layer. Some (word (layer_name layer)) };
 
     /// The word by which the layer is told.
-    pub fn word(self) -> &'static str
-        ensures { result.now ≡ word_of (layer_name self) }
-    {
-        match self {
+    fn fmt<W: fmt::Write>(&self, f: &mut fmt::Formatter<W>) -> fmt::Result {
+        f.write_str(match self {
             Layer::Tape(_) => "tape",
             Layer::Map(_) => "map",
             Layer::Rule(_) => "rule",
             Layer::Search(_) => "search",
             Layer::Listing(_) => "listing",
-        }
+        })
     }
 }
 
@@ -107,9 +110,19 @@ impl From<ListingCause> for Layer {
 }
 
 /// The fault that ended a play.
-#[derive(Clone, Copy, Drop)]
+#[derive(Clone, Copy, Drop, PartialEq, Eq, Debug)]
 pub struct Fault {
     /// Where its command's first byte stands on the tape, counted from 0.
     pub place: usize,
     pub layer: Layer,
+}
+
+impl fmt::Display for Fault {
+    ghost output = { λ fault. Some (fault_text (told_fault fault)) };
+
+    fn fmt<W: fmt::Write>(&self, f: &mut fmt::Formatter<W>) -> fmt::Result {
+        let Fault { place, layer } = *self;
+        let number = u8::from(layer);
+        write!(f, "fault {number} at {place} in {layer}")
+    }
 }

@@ -1,8 +1,8 @@
 #![tactic(auto)]
 
 pub mod copy;
-mod desk;
 pub mod fault;
+mod keeping;
 mod listing;
 pub mod play;
 pub mod theorems;

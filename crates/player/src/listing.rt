@@ -1,159 +1,84 @@
-ghost use Rattle.std.specs.Prelude.{◌≡◌, ◌+◌, ◌*◌, ◌≤◌, length, decimal};
+ghost use Rattle.std.specs.Prelude.{◌≡◌, ◌+◌, ◌<◌, ◌≤◌, [], ◌∷◌, ◌++◌, length, option_copied};
 ghost use Rattle.std.specs.List.{flat_map};
-ghost use Rattle.track.specs.Sizes.{most_runs};
-ghost use Rattle.tape.specs.Letters.{kind_letter};
-ghost use Rattle.tape.specs.Buffers.{put_at};
-ghost use Rattle.player.specs.Lines.{field, route_line, no_way_line};
-ghost use Rattle.player.specs.Writing.{heading, line_answer, line_left};
+ghost use Rattle.player.specs.Lines.{field, line_of};
+ghost use Rattle.player.specs.Writing.{heading, reply_of, line_answer, line_left};
 
-use tape::command::KindName;
+use crate::fault::ListingCause;
+use arrayvec::ArrayString;
+use desk::ask::Route;
+use itoa::Buffer;
+use tape::command::Question;
+use track::run::MOST_RUNS;
 
-/// Writes the line of a route at the beginning of `out` and answers its length, or writes nothing where it does not fit.
-pub(crate) fn write_route(
+/// What the longest line takes: kind, home and mark, the cost, the number of runs, 256 runs, and the line's end.
+const LINE: usize = 1 + 2 * 4 + 21 + 4 + MOST_RUNS * 6 + 1;
+
+/// Writes the line that tells the reply to a question at the beginning of `out` and answers its length.
+///
+/// Writes nothing where the line does not fit.
+pub(crate) fn write_line(
     out: &mut [u8],
-    kind: KindName,
-    home: u8,
-    mark: u8,
-    cost: u64,
-    runs: &[u16],
-) -> Option<usize>
-    requires { length runs.now ≤ most_runs }
-    ensures value { result ≡ line_answer (route_line kind home mark cost runs.now) out.old }
-    ensures after { out.new ≡ line_left (route_line kind home mark cost runs.now) out.old }
+    question: Question,
+    route: Option<&Route>,
+) -> Result<usize, ListingCause>
+    ensures value { result ≡ line_answer (line_of question.kind question.home question.mark (reply_of (option_copied route.entry))) out.old }
+    ensures after { out.new ≡ line_left (line_of question.kind question.home question.mark (reply_of (option_copied route.entry))) out.old }
 {
-    let count = runs.len() as u64;
-    let size = heading_size(home, mark)
-        + field_size(cost)
-        + field_size(count)
-        + runs_size(runs)
-        + 1;
-    if size > out.len() {
-        return None;
+    let line = line_of(question, route);
+    let text = line.as_str().as_bytes();
+    if text.len() > out.len() {
+        return Err(ListingCause::NoRoom);
     }
-    let at = put_heading(out, kind, home, mark);
-    let at = put_field(out, at, cost);
-    let at = put_field(out, at, count);
-    let at = put_runs(out, at, runs);
-    out[at] = b'\n';
-    Some(size)
+    out[..text.len()].copy_from_slice(text);
+    Ok(text.len())
 }
 
-/// Writes the line that says that there is no way, likewise.
-pub(crate) fn write_no_way(out: &mut [u8], kind: KindName, home: u8, mark: u8) -> Option<usize>
-    ensures value { result ≡ line_answer (no_way_line kind home mark) out.old }
-    ensures after { out.new ≡ line_left (no_way_line kind home mark) out.old }
+/// The line that tells the reply to a question: a route, or that there is no way.
+fn line_of(question: Question, route: Option<&Route>) -> ArrayString<LINE>
+    ensures { result.bytes ≡ line_of question.kind question.home question.mark (reply_of (option_copied route.entry)) }
 {
-    let text = b" no way\n";
-    let size = heading_size(home, mark) + text.len();
-    if size > out.len() {
-        return None;
+    let mut line = ArrayString::new();
+    put_question(&mut line, question);
+    match route {
+        Some(route) => put_route(&mut line, route),
+        None => line.push_str(" no way"),
     }
-    let at = put_heading(out, kind, home, mark);
-    put_text(out, at, text);
-    Some(size)
+    line.push('\n');
+    line
 }
 
-/// The letter of a kind.
-fn letter_of(kind: KindName) -> u8
-    ensures { result ≡ kind_letter kind }
+/// Appends kind, home and mark.
+fn put_question(line: &mut ArrayString<LINE>, question: Question)
+    requires { line.old.bytes ≡ [] }
+    ensures after { line.new.bytes ≡ heading question.kind question.home question.mark }
+    ensures within { length line.new.bytes ≤ 9 }
 {
-    match kind {
-        KindName::Time => b't',
-        KindName::Strain => b's',
-        KindName::HandOvers => b'h',
-    }
+    line.push(char::from(u8::from(question.kind)));
+    put_field(line, u64::from(question.home));
+    put_field(line, u64::from(question.mark));
 }
 
-/// How many digits `n` has.
-fn digits(n: u64) -> usize
-    ensures value { result ≡ length (decimal n) }
-    ensures bound { result ≤ 20 }
+/// Appends what a route costs, how many runs it has, and the runs.
+fn put_route(line: &mut ArrayString<LINE>, route: &Route)
+    requires { length line.old.bytes ≤ 9 }
+    ensures after { line.new.bytes ≡ line.old.bytes ++ flat_map field (route.now.cost ∷ length route.now.runs.items ∷ route.now.runs.items) }
+    ensures within { length line.new.bytes < LINE }
 {
-    if n < 10 { 1 } else { digits(n / 10) + 1 }
-}
-
-/// How many bytes a number takes with the space in front of it.
-fn field_size(n: u64) -> usize
-    ensures value { result ≡ length (field n) }
-    ensures bound { result ≤ 21 }
-{
-    1 + digits(n)
-}
-
-/// How many bytes the runs take.
-fn runs_size(runs: &[u16]) -> usize
-    requires { length runs.now ≤ most_runs }
-    ensures value { result ≡ length (flat_map field runs.now) }
-    ensures bound { result ≤ 21 * length runs.now }
-{
-    let mut size = 0;
+    let runs = route.runs.as_slice();
+    put_field(line, route.cost);
+    put_field(line, runs.len() as u64);
     for run in runs {
-        size += field_size(*run as u64);
+        put_field(line, u64::from(*run));
     }
-    size
 }
 
-/// How many bytes kind, home and mark take.
-fn heading_size(home: u8, mark: u8) -> usize
-    ensures value { result ≡ 1 + length (field home) + length (field mark) }
-    ensures bound { result ≤ 43 }
+/// Appends a space and `n`.
+fn put_field(line: &mut ArrayString<LINE>, n: u64)
+    requires { length line.old.bytes + length (field n) ≤ LINE }
+    ensures after { line.new.bytes ≡ line.old.bytes ++ field n }
+    ensures len { length line.new.bytes ≡ length line.old.bytes + length (field n) }
 {
-    1 + field_size(home as u64) + field_size(mark as u64)
-}
-
-/// Writes `n` in decimal from `at` on, and answers where it ends.
-fn put_number(out: &mut [u8], at: usize, n: u64) -> usize
-    requires { at + length (decimal n) ≤ length out.old }
-    ensures ends { result ≡ at + length (decimal n) }
-    ensures left { out.new ≡ put_at out.old at (decimal n) }
-{
-    if n < 10 {
-        out[at] = b'0' + n as u8;
-        return at + 1;
-    }
-    let last = put_number(out, at, n / 10);
-    out[last] = b'0' + (n % 10) as u8;
-    last + 1
-}
-
-/// Writes a space and `n` from `at` on, and answers where they end.
-fn put_field(out: &mut [u8], at: usize, n: u64) -> usize
-    requires { at + length (field n) ≤ length out.old }
-    ensures ends { result ≡ at + length (field n) }
-    ensures left { out.new ≡ put_at out.old at (field n) }
-{
-    out[at] = b' ';
-    put_number(out, at + 1, n)
-}
-
-/// Writes the runs from `start` on, and answers where they end.
-fn put_runs(out: &mut [u8], start: usize, runs: &[u16]) -> usize
-    requires { start + length (flat_map field runs.now) ≤ length out.old }
-    ensures ends { result ≡ start + length (flat_map field runs.now) }
-    ensures left { out.new ≡ put_at out.old start (flat_map field runs.now) }
-{
-    let mut at = start;
-    for run in runs {
-        at = put_field(out, at, *run as u64);
-    }
-    at
-}
-
-/// Writes kind, home and mark at the beginning of `out`, and answers where they end.
-fn put_heading(out: &mut [u8], kind: KindName, home: u8, mark: u8) -> usize
-    requires { length (heading kind home mark) ≤ length out.old }
-    ensures ends { result ≡ length (heading kind home mark) }
-    ensures left { out.new ≡ put_at out.old 0 (heading kind home mark) }
-{
-    out[0] = letter_of(kind);
-    let at = put_field(out, 1, home as u64);
-    put_field(out, at, mark as u64)
-}
-
-/// Writes `text` from `at` on.
-fn put_text(out: &mut [u8], at: usize, text: &[u8])
-    requires { at + length text.now ≤ length out.old }
-    ensures { out.new ≡ put_at out.old at text.now }
-{
-    out[at..at + text.len()].copy_from_slice(text);
+    let mut digits = Buffer::new();
+    line.push(' ');
+    line.push_str(digits.format(n));
 }

@@ -3,18 +3,18 @@ ghost use Rattle.track.specs.Calls.{map_of};
 ghost use Rattle.tape.specs.Reading.{decode};
 ghost use Rattle.player.specs.Faults.{told_faults};
 ghost use Rattle.player.specs.Play.{PlayDone};
-ghost use Rattle.player.specs.Obeying.{desk_of, Turned};
+ghost use Rattle.player.specs.Obeying.{desk_in, Turned};
 
-use crate::desk::Desk;
 use crate::fault::{Fault, Layer};
+use crate::keeping::Desk;
 use tape::read::read_command;
-use track::rig::GetIn;
+use track::rig::{GetIn, Rig};
 
 /// What a tape came to.
 #[derive(Drop)]
 pub struct Played {
     /// The rig, in get-in, as the commands before any fault made it.
-    pub rig: GetIn,
+    pub rig: Rig<GetIn>,
     /// How many bytes of the listing were written.
     pub len: usize,
     /// The fault that ended the play, if one did.
@@ -25,7 +25,7 @@ pub struct Played {
 ///
 /// A fault is told with the place of its command's first byte. Lines written before it remain, and later bytes of the listing are untouched.
 pub fn play(tape: &[u8], listing: &mut [u8]) -> Played
-    ensures { PlayDone tape.now listing.old (map_of result.rig.layout) result.len (told_faults result.fault) listing.new }
+    ensures { PlayDone tape.now listing.old (map_of result.rig) result.len (told_faults result.fault) listing.new }
 {
     let mut desk = Desk::new();
     let mut at = 0;
@@ -61,7 +61,7 @@ struct Turn {
 
 /// Reads the command at the front of `tape` and obeys it; its line goes to the front of `rest`.
 fn obey_next(desk: &mut Desk, tape: &[u8], rest: &mut [u8]) -> Result<Turn, Layer>
-    ensures turned { Turned (decode tape.now) (desk_of desk.old) rest.old result (desk_of desk.new) rest.new }
+    ensures turned { Turned (decode tape.now) (desk_in desk.old) rest.old result (desk_in desk.new) rest.new }
     ensures within { IfOk result (λ t. (0 < t.read) × (t.read ≤ length tape.now) × (t.written ≤ length rest.old)) }
 {
     let (command, read) = read_command(tape)?;

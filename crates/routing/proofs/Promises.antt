@@ -1,15 +1,13 @@
 -- From what a search over the runs leaves to what a survey and a route promise of a rig.
 use Rattle.std.proofs.Common.{◌≡◌, ℕ, ◌<◌, ◌≤◌, List, [], ◌∷◌, ◌++◌, length, drop, Some, None, sym, refl, ◌∙◌, subst, subst₂, arith}
 use Rattle.std.proofs.lemmas.List.{take_at, drop_at}
-use Rattle.std.proofs.lemmas.Bool.{and_parts, ltb-true}
 use Rattle.std.proofs.lemmas.Bool.Decides.{nat_tests}
 use Rattle.track.specs.declared.run.Run.{Run}
-use Rattle.track.specs.declared.rig.Rig.{Rig}
 use Rattle.track.specs.Sizes.{points}
 use Rattle.track.specs.Answers.{Answer, gave, refused}
 use Rattle.track.specs.Map.{Map, Call}
 use Rattle.track.specs.Map.Call.{Survey, Route}
-use Rattle.track.specs.Calls.{map_of, map_after, LeftBy}
+use Rattle.track.specs.Calls.{map_after, LeftBy}
 use Rattle.track.proofs.History.{left_is, one_more}
 use Rattle.walks.specs.Kinds.{Kind}
 use Rattle.walks.specs.Rules.{Rule}
@@ -17,13 +15,8 @@ use Rattle.walks.specs.Cheapest.{Task, task, LeadsTo, Cheapest}
 use Rattle.routing.specs.Tables.{Place, reached, TablePlace, TableHolds, BoardPlace, BoardHolds}
 use Rattle.routing.specs.Survey.{survey_answer, TableLeft, BoardLeft, SurveyDone}
 use Rattle.routing.specs.Route.{route_checks, Routed, RouteLeft, RouteDone}
-use Rattle.routing.specs.Offers.{HeadsBelow}
 use Rattle.routing.specs.Chains.{Chain}
 use Rattle.routing.proofs.Places.{in_table}
-
--- the runs of a rig lead to numbered points
-pub heads_below : {S : Type 0} (l : Rig S) → HeadsBelow (map_of l).runs points
-heads_below l r lt = ltb-true _ _ (and_parts _ _ (and_parts _ _ (l.sound r lt)).1).0
 
 -- what is so where no refusal applies
 pub survey_clear : (m : Map) (home places room : ℕ) → gave tt ≡ survey_answer m home places room → (home < points) × (length m.runs ≤ places) × (points ≤ room)

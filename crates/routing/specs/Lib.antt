@@ -3,5 +3,7 @@ pub mod Tables
 pub mod Survey
 pub mod Route
 pub mod Steps
+pub mod Heads
+pub mod Asked
 pub mod Offers
 pub mod Chains

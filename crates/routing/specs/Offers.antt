@@ -1,7 +1,6 @@
 -- What runs offer the points that they lead to. For inner functions; no public contract speaks of it.
-use Rattle.std.specs.Prelude.{◌≡◌, ℕ, ◌<◌, List, length, Some, None, Option, slice_index_or}
+use Rattle.std.specs.Prelude.{◌≡◌, ℕ, ◌<◌, List, Some, None, Option}
 use Rattle.track.specs.declared.run.Run.{Run}
-use Rattle.track.specs.Runs.{idle}
 use Rattle.walks.specs.Kinds.{Kind, Le}
 use Rattle.walks.specs.Walks.{run_at}
 use Rattle.routing.specs.Tables.{Place, place, reached}
@@ -26,7 +25,3 @@ BestBy k m t n v c (Some r) = BestRun k m t n v c r
 abbrev pub BestInto : {C : Type 0} → Kind C → List Run → List (Place C) → (n v : ℕ) → Place C → Type 0
 BestInto k m t n v None = (r : ℕ) → r < n → (run_at m r).head ≡ v → place t r ≡ None
 BestInto k m t n v (Some p) = BestBy k m t n v p.cost p.run
-
--- every run leads to one of the points below n
-abbrev pub HeadsBelow : List Run → (n : ℕ) → Type 0
-HeadsBelow m n = (r : ℕ) → r < length m → (slice_index_or m r idle).head < n

@@ -7,3 +7,4 @@ pub mod refusal;
 pub mod route;
 mod search;
 pub mod survey;
+mod task;

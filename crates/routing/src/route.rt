@@ -4,7 +4,7 @@ ghost use Rattle.track.specs.Answers.{told};
 ghost use Rattle.track.specs.Map.{Call};
 ghost use Rattle.track.specs.Map.Call.{Route};
 ghost use Rattle.track.specs.Calls.{map_of, map_after, LeftBy};
-ghost use Rattle.walks.specs.Cheapest.{task};
+ghost use Rattle.routing.specs.Asked.{asked};
 ghost use Rattle.routing.specs.Refusals.{number};
 ghost use Rattle.routing.specs.Tables.{TableHolds};
 ghost use Rattle.routing.specs.Route.{route_checks, Routed, RouteDone};
@@ -14,8 +14,9 @@ use crate::follow::follow_back;
 use crate::place::{Place, Reached};
 use crate::refusal::SearchRefusal;
 use crate::search::search;
+use crate::task::Task;
 use track::rig::{Rig, Show};
-use track::run::{POINTS, Run};
+use track::run::POINTS;
 use walks::kind::CostKind;
 use walks::rule::HandoverRule;
 
@@ -39,7 +40,13 @@ pub fn route<K: CostKind, R: HandoverRule>(
     check_route(rig, home, mark, table.len(), list.len())?;
     let runs = rig.runs();
     let laid = runs.len();
-    route_runs(kind, rule, runs, home, mark, &mut table[0..laid], list)
+    let task = Task {
+        kind,
+        rule,
+        runs,
+        home,
+    };
+    route_runs(&task, mark, &mut table[0..laid], list)
 }
 
 /// The first refusal that applies before any search, with so many places in the table and in the list.
@@ -67,23 +74,18 @@ fn check_route(
 
 /// The same on a table of just the runs and a list that has room for them all.
 fn route_runs<K: CostKind, R: HandoverRule>(
-    kind: &K,
-    rule: &R,
-    runs: &[Run],
-    home: u8,
+    task: &Task<K, R>,
     mark: u8,
     table: &mut [Place<K::Cost>],
     list: &mut [u16],
 ) -> Result<(usize, K::Cost), SearchRefusal>
-    requires laid { (length table.old ≡ length runs.now) × (length runs.now ≤ most_runs) }
-    requires room { length runs.now ≤ length list.old }
-    ensures runs_hold { TableHolds (task (K.CostKind.meaning kind.now) (R.HandoverRule.table rule.now) runs.now home) table.new }
-    ensures routed { Routed (task (K.CostKind.meaning kind.now) (R.HandoverRule.table rule.now) runs.now home) mark list.old (told number result) list.new }
+    requires laid { length table.old ≡ length task.now.runs.now }
+    requires room { length task.now.runs.now ≤ length list.old }
+    ensures runs_hold { TableHolds (asked K.CostKind.meaning R.HandoverRule.table task.now) table.new }
+    ensures routed { Routed (asked K.CostKind.meaning R.HandoverRule.table task.now) mark list.old (told number result) list.new }
 {
-    search(kind, rule, runs, home, table);
-    let Reached { cost, run } = place_of(kind, runs, home, table, mark).ok_or(
-        SearchRefusal::NoWay,
-    )?;
+    search(task, table);
+    let Reached { cost, run } = place_of(task, table, mark).ok_or(SearchRefusal::NoWay)?;
     let count = match run {
         None => 0,
         Some(end) => follow_back(table, end, list),

@@ -1,11 +1,12 @@
 ghost use Rattle.std.specs.Prelude.{◌≡◌, ◌<◌, ◌≤◌, length, MatchOption};
 ghost use Rattle.track.specs.Sizes.{most_runs};
-ghost use Rattle.walks.specs.Cheapest.{task};
 ghost use Rattle.walks.specs.Moves.{begin_cost};
 ghost use Rattle.routing.specs.Tables.{TableHolds};
+ghost use Rattle.routing.specs.Asked.{asked};
 ghost use Rattle.routing.specs.Steps.{begun, Begun, lower, improved, Relaxed, NoneWaits, Lowest};
 
 use crate::place::{Place, Reached};
+use crate::task::Task;
 use track::run::{MOST_RUNS, Run};
 use walks::kind::CostKind;
 use walks::rule::HandoverRule;
@@ -55,12 +56,12 @@ pub(crate) fn improve<K: CostKind>(
 }
 
 /// Fills the table with the places of the runs before any is taken.
-fn begin_all<K: CostKind>(kind: &K, home: u8, runs: &[Run], table: &mut [Place<K::Cost>])
-    requires { length table.old ≡ length runs.now }
-    ensures { Begun (K.CostKind.meaning kind.now) home runs.now table.new }
+fn begin_all<K: CostKind, R>(task: &Task<K, R>, table: &mut [Place<K::Cost>])
+    requires { length table.old ≡ length task.now.runs.now }
+    ensures { Begun (K.CostKind.meaning task.now.kind.now) task.now.home task.now.runs.now table.new }
 {
     for (run, place) in table.iter_mut().enumerate() {
-        *place = begin(kind, home, runs[run]);
+        *place = begin(task.kind, task.home, task.runs[run]);
     }
 }
 
@@ -93,23 +94,21 @@ fn next_waiting<K: CostKind>(
 ///
 /// A place is written only where the offer is lower: a run before that is replaced at an equal cost could close a ring.
 fn relax<K: CostKind, R: HandoverRule>(
-    kind: &K,
-    rule: &R,
-    runs: &[Run],
+    task: &Task<K, R>,
     table: &mut [Place<K::Cost>],
     taken: &[bool],
     from: Waiting<K::Cost>,
 )
-    requires { (length table.old ≡ length runs.now) × ((length runs.now ≤ length taken.now) × ((length runs.now ≤ most_runs) × (from.run < length runs.now))) }
-    ensures { Relaxed (K.CostKind.meaning kind.now) (R.HandoverRule.table rule.now) runs.now taken.now from.run from.cost table.old table.new }
+    requires { (length table.old ≡ length task.now.runs.now) × (length task.now.runs.now ≤ length taken.now) × (from.run < length task.now.runs.now) }
+    ensures { Relaxed (K.CostKind.meaning task.now.kind.now) (R.HandoverRule.table task.now.rule.now) task.now.runs.now taken.now from.run from.cost table.old table.new }
 {
     let Waiting { run, cost } = from;
-    let last = runs[run];
+    let last = task.runs[run];
     let before = run as u16;
     for (next, place) in table.iter_mut().enumerate() {
         let waits = !taken[next];
-        let offer = follow(kind, rule, last, runs[next], cost).filter(|_| waits);
-        improve(kind, before, offer, place);
+        let offer = follow(task.kind, task.rule, last, task.runs[next], cost).filter(|_| waits);
+        improve(task.kind, before, offer, place);
     }
 }
 
@@ -117,20 +116,14 @@ fn relax<K: CostKind, R: HandoverRule>(
 ///
 /// Takes one run after another, a lowest waiting label first. At most the square of the number of runs, and at most one
 /// question to the rule for each pair of runs that meet.
-pub(crate) fn search<K: CostKind, R: HandoverRule>(
-    kind: &K,
-    rule: &R,
-    runs: &[Run],
-    home: u8,
-    table: &mut [Place<K::Cost>],
-)
-    requires { (length table.old ≡ length runs.now) × (length runs.now ≤ most_runs) }
-    ensures { TableHolds (task (K.CostKind.meaning kind.now) (R.HandoverRule.table rule.now) runs.now home) table.new }
+pub(crate) fn search<K: CostKind, R: HandoverRule>(task: &Task<K, R>, table: &mut [Place<K::Cost>])
+    requires { length table.old ≡ length task.now.runs.now }
+    ensures { TableHolds (asked K.CostKind.meaning R.HandoverRule.table task.now) table.new }
 {
     let mut taken = [false; MOST_RUNS];
-    begin_all(kind, home, runs, table);
-    while let Some(next) = next_waiting(kind, table, &taken) {
+    begin_all(task, table);
+    while let Some(next) = next_waiting(task.kind, table, &taken) {
         taken[next.run] = true;
-        relax(kind, rule, runs, table, &taken, next);
+        relax(task, table, &taken, next);
     }
 }

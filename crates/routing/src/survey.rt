@@ -4,18 +4,18 @@ ghost use Rattle.track.specs.Answers.{told};
 ghost use Rattle.track.specs.Map.{Call};
 ghost use Rattle.track.specs.Map.Call.{Survey};
 ghost use Rattle.track.specs.Calls.{map_of, map_after, LeftBy};
-ghost use Rattle.walks.specs.Cheapest.{task};
+ghost use Rattle.routing.specs.Asked.{asked};
 ghost use Rattle.routing.specs.Refusals.{number};
 ghost use Rattle.routing.specs.Tables.{TableHolds, BoardHolds};
 ghost use Rattle.routing.specs.Survey.{survey_answer, SurveyDone};
-ghost use Rattle.routing.specs.Offers.{HeadsBelow};
 
 use crate::board::fill_board;
 use crate::place::Place;
 use crate::refusal::SearchRefusal;
 use crate::search::search;
+use crate::task::Task;
 use track::rig::{Rig, Show};
-use track::run::{POINTS, Run};
+use track::run::POINTS;
 use walks::kind::CostKind;
 use walks::rule::HandoverRule;
 
@@ -37,14 +37,13 @@ pub fn survey<K: CostKind, R: HandoverRule>(
     check_survey(rig, home, table.len(), board.len())?;
     let runs = rig.runs();
     let laid = runs.len();
-    survey_runs(
+    let task = Task {
         kind,
         rule,
         runs,
         home,
-        &mut table[0..laid],
-        &mut board[0..POINTS],
-    );
+    };
+    survey_runs(&task, &mut table[0..laid], &mut board[0..POINTS]);
     Ok(())
 }
 
@@ -66,19 +65,15 @@ fn check_survey(rig: &Rig<Show>, home: u8, places: usize, room: usize) -> Result
 
 /// Fills a table of just the runs and a board of just the points.
 fn survey_runs<K: CostKind, R: HandoverRule>(
-    kind: &K,
-    rule: &R,
-    runs: &[Run],
-    home: u8,
+    task: &Task<K, R>,
     table: &mut [Place<K::Cost>],
     board: &mut [Place<K::Cost>],
 )
-    requires laid { (length table.old ≡ length runs.now) × (length runs.now ≤ most_runs) }
-    requires heads { HeadsBelow runs.now points }
-    requires room { (length board.old ≡ points) × (home < points) }
-    ensures runs_hold { TableHolds (task (K.CostKind.meaning kind.now) (R.HandoverRule.table rule.now) runs.now home) table.new }
-    ensures points_hold { BoardHolds (task (K.CostKind.meaning kind.now) (R.HandoverRule.table rule.now) runs.now home) table.new board.new }
+    requires laid { length table.old ≡ length task.now.runs.now }
+    requires room { length board.old ≡ points }
+    ensures runs_hold { TableHolds (asked K.CostKind.meaning R.HandoverRule.table task.now) table.new }
+    ensures points_hold { BoardHolds (asked K.CostKind.meaning R.HandoverRule.table task.now) table.new board.new }
 {
-    search(kind, rule, runs, home, table);
-    fill_board(kind, runs, home, table, board);
+    search(task, table);
+    fill_board(task, table, board);
 }

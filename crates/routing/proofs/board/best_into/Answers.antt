@@ -10,9 +10,9 @@ use Rattle.routing.proofs.board.best_into.Goals.{then-run-point, else-run-point}
 
 pub loop-i-preserved : goal.loop-i-preserved
 loop-i-preserved g c =
-    let k = g.K.CostKind.meaning c.args.kind.now in
-    let laws = g.met.K.CostKind.lawful c.args.kind.now in
-    let runs = c.args.runs.now in
+    let k = g.K.CostKind.meaning c.args.task.now.kind.now in
+    let laws = g.met.K.CostKind.lawful c.args.task.now.kind.now in
+    let runs = c.args.task.now.runs.now in
     let table = c.args.table.now in
     let r = c.loop-i.i in
     let head = ap (λ (x : Run). x.head) (get_or_default runs r not_laid idle c.loop-i-test.true) in
@@ -25,5 +25,5 @@ loop-i-preserved g c =
 
 pub returns : goal.returns
 returns g c =
-    let all : c.loop-i.i ≡ length c.args.runs.now = omega arith in
-    subst (λ (n : ℕ). BestInto (g.K.CostKind.meaning c.args.kind.now) c.args.runs.now c.args.table.now n c.args.point c.loop-i.best) all c.loop-i.invariant
+    let all : c.loop-i.i ≡ length c.args.task.now.runs.now = omega arith in
+    subst (λ (n : ℕ). BestInto (g.K.CostKind.meaning c.args.task.now.kind.now) c.args.task.now.runs.now c.args.table.now n c.args.point c.loop-i.best) all c.loop-i.invariant

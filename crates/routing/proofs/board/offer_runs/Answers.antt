@@ -10,16 +10,16 @@ use Rattle.routing.proofs.board.offer_runs.Goals as goal
 
 pub loop-i-preserved : goal.loop-i-preserved
 loop-i-preserved g c v lt =
-    let k = g.K.CostKind.meaning c.args.kind.now in
-    let laws = g.met.K.CostKind.lawful c.args.kind.now in
-    let runs = c.args.runs.now in
+    let k = g.K.CostKind.meaning c.args.task.now.kind.now in
+    let laws = g.met.K.CostKind.lawful c.args.task.now.kind.now in
+    let runs = c.args.task.now.runs.now in
     let table = c.args.table.now in
     let board = c.loop-i.board in
     let r = c.loop-i.i in
     let head = c.from-head.result in
     let best = get_or board head c.index-board-head.result in
     let here = c.index-table-i.result in
-    let within : head < length board = omega (arith, c.requires.heads r c.loop-i-test.true) in
+    let within : head < length board = omega (arith, c.args.task.now.heads r c.loop-i-test.true) in
     board_more k laws runs table board r head best here c.improve.new.place c.map.result within
     (ap (λ (x : Run). x.head) (get_or_default runs r not_laid idle c.loop-i-test.true) ∙ sym c.from-head.ensures)
     (get_or_default board head None c.index-board-head.result within)
@@ -28,5 +28,5 @@ loop-i-preserved g c v lt =
 
 pub returns : goal.returns
 returns g c v lt =
-    let all : c.loop-i.i ≡ length c.args.runs.now = omega arith in
-    subst (λ (n : ℕ). BestInto (g.K.CostKind.meaning c.args.kind.now) c.args.runs.now c.args.table.now n v (place c.loop-i.board v)) all (c.loop-i.invariant v lt)
+    let all : c.loop-i.i ≡ length c.args.task.now.runs.now = omega arith in
+    subst (λ (n : ℕ). BestInto (g.K.CostKind.meaning c.args.task.now.kind.now) c.args.task.now.runs.now c.args.table.now n v (place c.loop-i.board v)) all (c.loop-i.invariant v lt)

@@ -7,5 +7,5 @@ use Rattle.routing.proofs.search.begin_all.Given as goal
 
 abbrev pub invariant-loop-run : goal.invariant-loop-run
 invariant-loop-run g l =
-    ((r : ℕ) → r < l.run → place l.table r ≡ begun (begin_cost (g.K.CostKind.meaning l.kind) l.home (run_at l.runs r)))
+    ((r : ℕ) → r < l.run → place l.table r ≡ begun (begin_cost (g.K.CostKind.meaning l.task.kind.now) l.task.home (run_at l.task.runs.now r)))
     × ((r : ℕ) → l.run ≤ r → place l.table r ≡ place l.initial.table r)

@@ -8,9 +8,9 @@ use Rattle.routing.proofs.search.relax.Goals as goal
 
 pub loop-next-preserved : goal.loop-next-preserved
 loop-next-preserved g c =
-    let k = g.K.CostKind.meaning c.args.kind.now in
-    let rule = g.R.HandoverRule.table c.args.rule.now in
-    let runs = c.args.runs.now in
+    let k = g.K.CostKind.meaning c.args.task.now.kind.now in
+    let rule = g.R.HandoverRule.table c.args.task.now.rule.now in
+    let runs = c.args.task.now.runs.now in
     let d = c.args.taken.now in
     let u = c.args.from.run in
     let cost = c.args.from.cost in
@@ -25,7 +25,7 @@ loop-next-preserved g c =
     c.loop-next.invariant
 
 pub returns : goal.returns
-returns g c = λ r. elim (cases_lt r (length c.args.runs.now)) [
+returns g c = λ r. elim (cases_lt r (length c.args.task.now.runs.now)) [
   | inl lt ↦ c.loop-next.invariant.0 r (omega arith)
-  | inr past ↦ c.loop-next.invariant.1 r (omega arith) ∙ sym (relaxed_past (g.K.CostKind.meaning c.args.kind.now) (g.R.HandoverRule.table c.args.rule.now) c.args.runs.now c.args.taken.now c.args.from.run c.args.from.cost c.args.table.now r past)
+  | inr past ↦ c.loop-next.invariant.1 r (omega arith) ∙ sym (relaxed_past (g.K.CostKind.meaning c.args.task.now.kind.now) (g.R.HandoverRule.table c.args.task.now.rule.now) c.args.task.now.runs.now c.args.taken.now c.args.from.run c.args.from.cost c.args.table.now r past)
 ]

@@ -1,11 +1,9 @@
 use borrow.Rule.Slice.PartMut.{Post-is}
-use Rattle.std.proofs.Common.{◌-◌, List, length, sym, ap, subst, arith, length-take}
+use Rattle.std.proofs.Common.{◌-◌, length, ap, arith, length-take}
 use Rattle.std.proofs.lemmas.Result.{err_from_is_err_and}
-use Rattle.track.specs.declared.run.Run.{Run}
 use Rattle.track.specs.Sizes.{points}
 use Rattle.track.specs.Calls.{map_of}
-use Rattle.routing.specs.Offers.{HeadsBelow}
-use Rattle.routing.proofs.Promises.{heads_below, survey_clear, survey_promise, survey_refused, surveyed}
+use Rattle.routing.proofs.Promises.{survey_clear, survey_promise, survey_refused, surveyed}
 use Rattle.routing.proofs.survey.survey.Goals as goal
 
 pub returns-in_err-check_survey : goal.returns-in_err-check_survey
@@ -16,16 +14,6 @@ returns-in_err-check_survey g c =
     let p = err_from_is_err_and c.from_residual.result c.from_residual.ensures.1 in
     rw (p.1, p.2)
     (survey_promise k t c.args.home m c.args.table.now c.args.board.now _ _ _ (survey_refused k t c.args.home m c.args.table.now c.args.board.now _ c.in_err-check_survey.ensures))
-
-pub survey_runs-requires : goal.survey_runs-requires
-survey_runs-requires g c =
-    let clear = survey_clear (map_of c.args.rig.now) c.args.home (length c.args.table.now) (length c.args.board.now) c.in_ok-check_survey.ensures in
-    let same = ap length c.runs-runs.ensures.value in
-    record {
-      laid = (simp length-take (omega arith), c.runs-runs.ensures.bound);
-      heads = subst (λ (m : List Run). HeadsBelow m points) (sym c.runs-runs.ensures.value) (heads_below c.args.rig.now);
-      room = (simp length-take (omega arith), clear.0);
-    }
 
 pub returns : goal.returns
 returns g c =
