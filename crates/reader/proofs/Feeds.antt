@@ -1,9 +1,11 @@
 -- Where lines end.
-use Rattle.std.proofs.Common.{◌≡◌, ℕ, ◌+◌, ◌-◌, ◌<◌, ◌≤◌, cond, ◌≢◌, List, [], ◌∷◌, ◌++◌, length, get_or, take, drop, sym, refl, ap, ◌∙◌, subst, arith}
-use Rattle.std.proofs.ByRecursion.{All-more}
+use Rattle.std.proofs.Common.{◌≡◌, ℕ, zero, suc, ◌+◌, ◌-◌, ◌<◌, ◌≤◌, Bool, false, cond, eqb, ◌≢◌, List, [], ◌∷◌, ◌++◌, length, get_or, take, drop, position, Some, None, sym, refl, ap, ◌∙◌, subst, length-drop, arith}
 use Rattle.std.proofs.lemmas.List.{take-append-drop, take_all, take_rest, drop_more}
-use Rattle.std.proofs.lemmas.Bool.{ne_eqb}
-use Rattle.std.specs.List.{AllByRecursion as All}
+use Rattle.std.proofs.lemmas.List.Quantifiers.{position-Some}
+use Rattle.std.proofs.lemmas.List.Sums.{fails_before_first}
+use Rattle.std.proofs.lemmas.Bool.{eqb-true, eqb-false, ne_eqb}
+use Rattle.std.proofs.lemmas.Bool.Decides.{nat_tests}
+use Rattle.std.specs.List.{AllByRecursion as All, position_or_len}
 use Rattle.reader.specs.Sheet.{begun, lines}
 
 abbrev pub NoFeed : List ℕ → Type 0
@@ -23,17 +25,26 @@ lines_last [] h some = absurd (omega arith)
 lines_last (b ∷ []) h some = begun_line b [] h.0
 lines_last (b ∷ c ∷ l) h some = begun_line b (c ∷ l) h.0 ∙ ap (begun b) (lines_last (c ∷ l) h.1 (omega arith))
 
-module _ (text : List ℕ) (i : ℕ) (clear : NoFeed (take i text)) where
-  pub clear_more : i < length text → get_or text i 0 ≢ 10 → NoFeed (take (i + 1) text)
-  clear_more more other = All-more (λ b. b ≢ 10) text i 0 more clear other
+abbrev feed : ℕ → Bool
+feed b = eqb b 10
 
-  -- the two parts as the code takes them
-  pub cut_at : (n : ℕ) → n ≡ i → i < length text → get_or text i 0 ≡ 10 → lines text ≡ take n text ∷ lines (take (length text - (i + 1)) (drop (i + 1) text))
-  cut_at n is more feed =
-      ap lines (sym (take-append-drop i text) ∙ ap (λ z. take i text ++ z) (drop_more text i 0 more) ∙ ap (λ b. take i text ++ b ∷ drop (i + 1) text) feed)
-      ∙ lines_more (take i text) (drop (i + 1) text) clear
-      ∙ ap (λ k. take k text ∷ lines (drop (i + 1) text)) (sym is)
-      ∙ ap (λ z. take n text ∷ lines z) (sym (take_rest text (i + 1)))
+clear : (bs : List ℕ) (n : ℕ) → ((k : ℕ) → k < n → feed (get_or bs k 0) ≡ false) → NoFeed (take n bs)
+clear bs zero h = tt
+clear [] (suc n) h = tt
+clear (b ∷ bs) (suc n) h = (eqb-false b 10 (h 0 (omega arith)), clear bs n (λ k l. h (suc k) (omega arith)))
 
-  pub cut_none : length text ≤ i → 0 < length text → lines text ≡ text ∷ []
-  cut_none all some = let e = take_all i text all in lines_last text (subst NoFeed e clear) some
+-- cut at its first line feed, a text is its first line and the lines of the rest, as the code takes it
+module _ (text : List ℕ) where
+  pub cut_at : (n : ℕ) → Some n ≡ position feed text → (lines text ≡ take n text ∷ lines (take (length text - (n + 1)) (drop (n + 1) text))) × (length (take (length text - (n + 1)) (drop (n + 1) text)) < length text)
+  cut_at n first =
+      let (more, here, before) = position-Some feed text n 0 (sym first) in
+      let rest : take (length text - (n + 1)) (drop (n + 1) text) ≡ drop (n + 1) text = take_rest text (n + 1) in
+      let e : text ≡ take n text ++ 10 ∷ drop (n + 1) text = sym (take-append-drop n text) ∙ ap (λ z. take n text ++ z) (drop_more text n 0 more) ∙ ap (λ b. take n text ++ b ∷ drop (n + 1) text) (eqb-true _ 10 here) in (
+        ap lines e ∙ lines_more (take n text) (drop (n + 1) text) (clear text n before) ∙ ap (λ z. take n text ∷ lines z) (sym rest),
+        omega (arith, ap length rest, length-drop (n + 1) text),
+      )
+
+  pub cut_none : None ≡ position feed text → 0 < length text → lines text ≡ text ∷ []
+  cut_none none some =
+      let all : length text ≤ position_or_len feed text = grind (arith, nat_tests) in
+      lines_last text (subst NoFeed (take_all (length text) text (omega arith)) (clear text (length text) (λ k l. fails_before_first feed text k 0 (omega arith)))) some

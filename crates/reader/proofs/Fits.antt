@@ -8,10 +8,12 @@ use Rattle.track.specs.Map.Call.{Strike, Retime}
 use Rattle.walks.specs.Rules.{barred}
 use Rattle.reader.proofs.Feeds.{NoFeed}
 use Rattle.reader.specs.declared.rulings.Ruling.TheVariants.{Choose, SetFlat, SetPoint, SetPair}
+use Rattle.reader.specs.declared.words.Verb.{Verb}
+use Rattle.reader.specs.declared.words.Verb.TheVariants as verb
 use Rattle.reader.specs.Scan.{◌>>=◌, trimmed, word, behind, value, number, next, over, ended}
 use Rattle.reader.specs.Rulings.{setting, rule_in, set_words, rule_words}
 use Rattle.reader.specs.Questions.{kind_in, next_kind, asked, looked, route_words, survey_words}
-use Rattle.reader.specs.Words.{Said, nothing, unreadable, calls, rules, asks, looks, lay_words, strike_words, retime_words, name_text, name_words, call_words, says_words, says_trimmed, said_as}
+use Rattle.reader.specs.Words.{Said, nothing, unreadable, calls, rules, asks, looks, lay_words, strike_words, retime_words, name_text, name_words, verb_in, says_by, says_trimmed, said_as}
 use Rattle.reader.specs.Plain.{SayableCall, SayableRuling, Sayable, SaysSayable}
 
 -- reading goes on with what was found
@@ -101,17 +103,6 @@ text_fits point (b ∷ bs) fits h = (omega arith, h.1)
 name_fits : (bs : List ℕ) → NoFeed bs → IfSome (name_words bs) SayableCall
 name_fits bs h = byte SayableCall bs _ h (λ a ha. text_fits a.0 a.1 ha.0 ha.1)
 
--- by the first word: lay, strike, retime, name or another
-call_by : (l s r n : Bool) (bs : List ℕ) → NoFeed bs → IfSome (cond l (lay_words bs) (cond s (strike_words bs) (cond r (retime_words bs) (cond n (name_words bs) None)))) SayableCall
-call_by true s r n bs h = lay_fits bs h
-call_by false true r n bs h = strike_fits bs h
-call_by false false true n bs h = retime_fits bs h
-call_by false false false true bs h = name_fits bs h
-call_by false false false false bs h = tt
-
-call_fits : (w bs : List ℕ) → NoFeed bs → IfSome (call_words w bs) SayableCall
-call_fits w bs h = call_by (bytes_eq w (codes "lay")) (bytes_eq w (codes "strike")) (bytes_eq w (codes "retime")) (bytes_eq w (codes "name")) bs h
-
 set_fits : (rule : RuleName) (bs : List ℕ) → NoFeed bs → IfSome (set_words rule bs) SayableRuling
 set_fits Flat bs h = set SayableRuling bs _ h (λ a ha. ended_fits SayableRuling a.1 (SetFlat a.0) (omega arith))
 set_fits Point bs h =
@@ -151,16 +142,19 @@ fine_cond : (t : Bool) (a b : Said) → Fine a → Fine b → Fine (cond t a b)
 fine_cond true a b h k = h
 fine_cond false a b h k = k
 
-words_fine : (w bs : List ℕ) → NoFeed bs → Fine (says_words w bs)
-words_fine w bs h =
-    fine_cond (bytes_eq w (codes "rule")) _ _ (fine_as rules (rule_words bs) (rule_fits bs h)) (
-    fine_cond (bytes_eq w (codes "route")) _ _ (fine_as asks (route_words bs) (route_fits bs h)) (
-    fine_cond (bytes_eq w (codes "survey")) _ _ (fine_as looks (survey_words bs) (survey_fits bs h))
-    (fine_as calls (call_words w bs) (call_fits w bs h))))
+words_fine : (v : Option Verb) (bs : List ℕ) → NoFeed bs → Fine (says_by v bs)
+words_fine None bs h = λ read. absurd (read refl)
+words_fine (Some verb.Lay) bs h = fine_as calls (lay_words bs) (lay_fits bs h)
+words_fine (Some verb.Strike) bs h = fine_as calls (strike_words bs) (strike_fits bs h)
+words_fine (Some verb.Retime) bs h = fine_as calls (retime_words bs) (retime_fits bs h)
+words_fine (Some verb.Name) bs h = fine_as calls (name_words bs) (name_fits bs h)
+words_fine (Some verb.Rule) bs h = fine_as rules (rule_words bs) (rule_fits bs h)
+words_fine (Some verb.Route) bs h = fine_as asks (route_words bs) (route_fits bs h)
+words_fine (Some verb.Survey) bs h = fine_as looks (survey_words bs) (survey_fits bs h)
 
 trimmed_fine : (bs : List ℕ) → NoFeed bs → Fine (says_trimmed bs)
 trimmed_fine [] h = λ read. tt
-trimmed_fine (b ∷ bs) h = fine_cond (eqb b 35) nothing _ (λ read. tt) (words_fine (word (b ∷ bs)) (behind (b ∷ bs)) (behind_no_feed (b ∷ bs) h))
+trimmed_fine (b ∷ bs) h = fine_cond (eqb b 35) nothing _ (λ read. tt) (words_fine (verb_in (word (b ∷ bs))) (behind (b ∷ bs)) (behind_no_feed (b ∷ bs) h))
 
 pub says_sayable : SaysSayable
 says_sayable line h = trimmed_fine (trimmed line) (trimmed_no_feed line h)

@@ -2,7 +2,7 @@
 use Rattle.std.specs.Prelude.{ℕ, List, [], ◌∷◌, Some, None, Option}
 use Rattle.tape.specs.declared.command.KindName.{KindName}
 use Rattle.tape.specs.Letters.{kind_named}
-use Rattle.reader.specs.declared.questions.Question.{Question}
+use Rattle.tape.specs.declared.command.Question.{Question}
 use Rattle.reader.specs.declared.questions.Look.{Look}
 use Rattle.reader.specs.Scan.{◌>>=◌, trimmed, word, behind, next, ended}
 

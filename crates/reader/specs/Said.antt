@@ -5,7 +5,7 @@ use Rattle.track.specs.Map as map
 use Rattle.reader.specs.declared.words.Call.{Call}
 use Rattle.reader.specs.declared.words.Call.TheVariants.{Lay, Strike, Retime, Name}
 use Rattle.reader.specs.declared.words.Line.{Line}
-use Rattle.reader.specs.declared.words.Line.TheVariants.{Nothing, Unreadable, Call as CallLine, Rule, Route, Survey}
+use Rattle.reader.specs.declared.words.Line.TheVariants.{Nothing, Call as CallLine, Rule, Route, Survey}
 use Rattle.reader.specs.Words.{Said, nothing, unreadable, calls, rules, asks, looks}
 
 -- what was read and what is left of the line
@@ -19,10 +19,11 @@ call_of (Strike run) = map.Call.Strike run
 call_of (Retime run time) = map.Call.Retime run time
 call_of (Name point text) = map.Call.Name point text.now
 
-abbrev pub said : Line → Said
-said Nothing = nothing
-said Unreadable = unreadable
-said (CallLine c) = calls (call_of c)
-said (Rule r) = rules r
-said (Route q) = asks q
-said (Survey l) = looks l
+-- a line that cannot be read has no value
+abbrev pub said : Option Line → Said
+said None = unreadable
+said (Some Nothing) = nothing
+said (Some (CallLine c)) = calls (call_of c)
+said (Some (Rule r)) = rules r
+said (Some (Route q)) = asks q
+said (Some (Survey l)) = looks l

@@ -4,8 +4,10 @@ use Rattle.std.specs.Str.{bytes_eq}
 use Rattle.track.specs.Map.{Call}
 use Rattle.track.specs.Map.Call.{Lay, Strike, Retime, Name}
 use Rattle.reader.specs.declared.rulings.Ruling.{Ruling}
-use Rattle.reader.specs.declared.questions.Question.{Question}
+use Rattle.tape.specs.declared.command.Question.{Question}
 use Rattle.reader.specs.declared.questions.Look.{Look}
+use Rattle.reader.specs.declared.words.Verb.{Verb}
+use Rattle.reader.specs.declared.words.Verb.TheVariants as verb
 use Rattle.reader.specs.Scan.{◌>>=◌, trimmed, word, behind, next, ended}
 use Rattle.reader.specs.Rulings.{rule_words}
 use Rattle.reader.specs.Questions.{route_words, survey_words}
@@ -48,14 +50,17 @@ name_words bs = do
   (point, bs) ← next 255 bs
   name_text point bs
 
--- the call that a first word asks for, read from the bytes behind it
-abbrev pub call_words : List ℕ → List ℕ → Option Call
-call_words w bs =
-    cond (bytes_eq w (codes "lay")) (lay_words bs)
-    (cond (bytes_eq w (codes "strike")) (strike_words bs)
-    (cond (bytes_eq w (codes "retime")) (retime_words bs)
-    (cond (bytes_eq w (codes "name")) (name_words bs)
-    None)))
+-- the word with that spelling
+abbrev pub verb_in : List ℕ → Option Verb
+verb_in w =
+    cond (bytes_eq w (codes "lay")) (Some verb.Lay)
+    (cond (bytes_eq w (codes "strike")) (Some verb.Strike)
+    (cond (bytes_eq w (codes "retime")) (Some verb.Retime)
+    (cond (bytes_eq w (codes "name")) (Some verb.Name)
+    (cond (bytes_eq w (codes "rule")) (Some verb.Rule)
+    (cond (bytes_eq w (codes "route")) (Some verb.Route)
+    (cond (bytes_eq w (codes "survey")) (Some verb.Survey)
+    None))))))
 
 -- what was read, or else the line cannot be read
 abbrev pub said_as : {X : Type 0} → (X → Said) → Option X → Said
@@ -63,17 +68,20 @@ said_as f None = unreadable
 said_as f (Some x) = f x
 
 -- what a line with this first word says, read from the bytes behind it
-abbrev pub says_words : List ℕ → List ℕ → Said
-says_words w bs =
-    cond (bytes_eq w (codes "rule")) (said_as rules (rule_words bs))
-    (cond (bytes_eq w (codes "route")) (said_as asks (route_words bs))
-    (cond (bytes_eq w (codes "survey")) (said_as looks (survey_words bs))
-    (said_as calls (call_words w bs))))
+abbrev pub says_by : Option Verb → List ℕ → Said
+says_by None bs = unreadable
+says_by (Some verb.Lay) bs = said_as calls (lay_words bs)
+says_by (Some verb.Strike) bs = said_as calls (strike_words bs)
+says_by (Some verb.Retime) bs = said_as calls (retime_words bs)
+says_by (Some verb.Name) bs = said_as calls (name_words bs)
+says_by (Some verb.Rule) bs = said_as rules (rule_words bs)
+says_by (Some verb.Route) bs = said_as asks (route_words bs)
+says_by (Some verb.Survey) bs = said_as looks (survey_words bs)
 
 -- nothing is said by a line of spaces, nor by one whose first byte behind spaces is '#'
 abbrev pub says_trimmed : List ℕ → Said
 says_trimmed [] = nothing
-says_trimmed (b ∷ bs) = cond (b == 35) nothing (says_words (word (b ∷ bs)) (behind (b ∷ bs)))
+says_trimmed (b ∷ bs) = cond (b == 35) nothing (says_by (verb_in (word (b ∷ bs))) (behind (b ∷ bs)))
 
 abbrev pub says : List ℕ → Said
 says line = says_trimmed (trimmed line)

@@ -3,15 +3,7 @@ ghost use Rattle.reader.specs.Questions.{kind_in, next_kind, route_words, survey
 ghost use Rattle.reader.specs.Said.{went_on};
 
 use crate::scan::{if_ended, next_byte, split_word, trim};
-use tape::command::{KindName, kind_of};
-
-/// A route that is asked: by which kind of cost, from where, to where.
-#[derive(Clone, Copy, Drop)]
-pub struct Question {
-    pub kind: KindName,
-    pub home: u8,
-    pub mark: u8,
-}
+use tape::command::{KindName, Question};
 
 /// A survey that is asked: by which kind of cost, from where.
 #[derive(Clone, Copy, Drop)]
@@ -25,7 +17,7 @@ fn kind_named(word: &[u8]) -> Option<KindName>
     ensures { result ≡ kind_in word.now }
 {
     match word {
-        [letter] => kind_of(char::from(*letter)),
+        [letter] => KindName::try_from(char::from(*letter)).ok(),
         _ => None,
     }
 }

@@ -2,7 +2,7 @@ ghost use Rattle.std.specs.Prelude.{◌≡◌};
 ghost use Rattle.reader.specs.Rulings.{setting as setting_words, flat_words, point_words, pair_words, rule_in, rule_words};
 ghost use Rattle.reader.specs.Said.{went_on};
 
-use crate::scan::{if_ended, is_over, next_byte, next_number, same, split_word, trim};
+use crate::scan::{if_ended, is_over, next_byte, next_number, split_word, trim};
 use tape::command::RuleName;
 use walks::setting::BARRED;
 
@@ -35,10 +35,9 @@ fn next_setting(bytes: &[u8]) -> Option<(u16, &[u8])>
     ensures { went_on result ≡ setting_words bytes.now }
 {
     let (first, rest) = split_word(trim(bytes));
-    if same(first, b"barred") {
-        Some((BARRED, rest))
-    } else {
-        next_number(bytes, BARRED - 1)
+    match first {
+        b"barred" => Some((BARRED, rest)),
+        _ => next_number(bytes, BARRED - 1),
     }
 }
 
@@ -80,14 +79,11 @@ fn read_pair(bytes: &[u8]) -> Option<Ruling>
 fn rule_named(name: &[u8]) -> Option<RuleName>
     ensures { result ≡ rule_in name.now }
 {
-    if same(name, b"flat") {
-        Some(RuleName::Flat)
-    } else if same(name, b"point") {
-        Some(RuleName::Point)
-    } else if same(name, b"pair") {
-        Some(RuleName::Pair)
-    } else {
-        None
+    match name {
+        b"flat" => Some(RuleName::Flat),
+        b"point" => Some(RuleName::Point),
+        b"pair" => Some(RuleName::Pair),
+        _ => None,
     }
 }
 

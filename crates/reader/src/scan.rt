@@ -1,5 +1,4 @@
-ghost use Rattle.std.specs.Prelude.{◌≡◌, ℕ, ◌+◌, ◌<◌, ◌≤◌, length, IfSome};
-ghost use Rattle.std.specs.Str.{bytes_eq};
+ghost use Rattle.std.specs.Prelude.{◌≡◌, ℕ, ◌+◌, ◌<◌, ◌≤◌, ◌==◌, position, IfSome};
 ghost use Rattle.reader.specs.Scan.{trimmed, word, behind, number, next, over, ended};
 ghost use Rattle.reader.specs.Said.{went_on};
 
@@ -14,16 +13,11 @@ pub(crate) fn trim(bytes: &[u8]) -> &[u8]
     rest
 }
 
-/// How many bytes stand before the first space.
-fn word_len(bytes: &[u8]) -> usize
-    ensures { result ≡ length (word bytes.now) }
+/// Where the byte stands first.
+pub(crate) fn first_of(byte: u8, bytes: &[u8]) -> Option<usize>
+    ensures { result ≡ position (λ b. b == byte) bytes.now }
 {
-    for (i, b) in bytes.iter().enumerate() {
-        if *b == b' ' {
-            return i;
-        }
-    }
-    bytes.len()
+    bytes.iter().position(|b| *b == byte)
 }
 
 /// The number that a word of digits writes, if it is at most `most`.
@@ -34,17 +28,17 @@ fn number_of(digits: &[u8], most: u16) -> Option<u16>
     if digits.is_empty() {
         return None;
     }
-    let mut n: u32 = 0;
+    let mut n: u16 = 0;
     for b in digits {
         if !b.is_ascii_digit() {
             return None;
         }
-        n = 10 * n + u32::from(*b - b'0');
-        if n > u32::from(most) {
+        n = n.checked_mul(10)?.checked_add(u16::from(*b - b'0'))?;
+        if n > most {
             return None;
         }
     }
-    Some(n as u16)
+    Some(n)
 }
 
 /// The first word, up to a space, and the bytes behind it.
@@ -52,7 +46,7 @@ pub(crate) fn split_word(bytes: &[u8]) -> (&[u8], &[u8])
     ensures front { result.0.now ≡ word bytes.now }
     ensures back { result.1.now ≡ behind bytes.now }
 {
-    bytes.split_at(word_len(bytes))
+    bytes.split_at(first_of(b' ', bytes).unwrap_or(bytes.len()))
 }
 
 /// The next word as a number up to `most`, and the bytes behind it.
@@ -73,13 +67,6 @@ pub(crate) fn next_byte(bytes: &[u8]) -> Option<(u8, &[u8])>
     Some((n as u8, rest))
 }
 
-/// Whether two words are the same.
-pub(crate) fn same(a: &[u8], b: &[u8]) -> bool
-    ensures { result ≡ bytes_eq a.now b.now }
-{
-    a == b
-}
-
 /// Whether no word is left.
 pub(crate) fn is_over(bytes: &[u8]) -> bool
     ensures { result ≡ over bytes.now }
@@ -91,5 +78,5 @@ pub(crate) fn is_over(bytes: &[u8]) -> bool
 pub(crate) fn if_ended<T: Drop>(bytes: &[u8], value: T) -> Option<T>
     ensures { result ≡ ended bytes.now value }
 {
-    if is_over(bytes) { Some(value) } else { None }
+    is_over(bytes).then_some(value)
 }

@@ -1,17 +1,18 @@
 ghost use Rattle.std.specs.Prelude.{◌≡◌};
 ghost use Rattle.std.specs.Option.{option_map};
-ghost use Rattle.reader.specs.Scan.{word, behind, ended};
-ghost use Rattle.reader.specs.Words.{lay_words, strike_words, retime_words, name_words, call_words, says_words, says};
+ghost use Rattle.reader.specs.Scan.{word, behind};
+ghost use Rattle.reader.specs.Words.{lay_words, strike_words, retime_words, name_words, verb_in, says_by, says};
 ghost use Rattle.reader.specs.Limits.{LimitsStand};
 ghost use Rattle.reader.specs.Plain.{LineReadsBack, SaysSayable, SheetReadsBack, CallsReadBack};
 ghost use Rattle.reader.specs.Said.{call_of, said};
 
-use crate::questions::{Look, Question, read_route, read_survey};
+use crate::questions::{Look, read_route, read_survey};
 use crate::rulings::{Ruling, read_rule};
-use crate::scan::{is_over, next_byte, next_number, same, split_word, trim};
+use crate::scan::{if_ended, next_byte, next_number, split_word, trim};
+use tape::command::Question;
 
 /// A call on a rig, as a line says it.
-#[derive(Clone, Copy)]
+#[derive(Clone, Copy, Drop)]
 pub enum Call<'a> {
     Lay {
         tail: u8,
@@ -33,23 +34,27 @@ pub enum Call<'a> {
     },
 }
 
-/// What a line of a sheet says.
+/// The first word of a line that can be read.
+#[derive(Clone, Copy)]
+enum Verb {
+    Lay,
+    Strike,
+    Retime,
+    Name,
+    Rule,
+    Route,
+    Survey,
+}
+
+/// What a line of a sheet says, where it can be read.
 #[derive(Clone, Copy)]
 pub enum Line<'a> {
     /// A blank line or a comment.
     Nothing,
-    Unreadable,
     Call(Call<'a>),
     Rule(Ruling),
     Route(Question),
     Survey(Look),
-}
-
-/// The call, if no word is left.
-fn call_if_ended<'a>(bytes: &[u8], call: Call<'a>) -> Option<Call<'a>>
-    ensures { option_map call_of result ≡ ended bytes.now (call_of call.entry) }
-{
-    if is_over(bytes) { Some(call) } else { None }
 }
 
 /// `lay` takes tail, head, winch, time and strain.
@@ -61,7 +66,7 @@ fn read_lay(bytes: &[u8]) -> Option<Call<'_>>
     let (winch, rest) = next_byte(rest)?;
     let (time, rest) = next_number(rest, u16::MAX)?;
     let (strain, rest) = next_byte(rest)?;
-    call_if_ended(
+    if_ended(
         rest,
         Call::Lay {
             tail,
@@ -78,7 +83,7 @@ fn read_strike(bytes: &[u8]) -> Option<Call<'_>>
     ensures { option_map call_of result ≡ strike_words bytes.now }
 {
     let (run, rest) = next_number(bytes, u16::MAX)?;
-    call_if_ended(rest, Call::Strike { run })
+    if_ended(rest, Call::Strike { run })
 }
 
 /// `retime` takes a run and its new time.
@@ -87,7 +92,7 @@ fn read_retime(bytes: &[u8]) -> Option<Call<'_>>
 {
     let (run, rest) = next_number(bytes, u16::MAX)?;
     let (time, rest) = next_number(rest, u16::MAX)?;
-    call_if_ended(rest, Call::Retime { run, time })
+    if_ended(rest, Call::Retime { run, time })
 }
 
 /// `name` takes a point and, behind one space, a text.
@@ -101,59 +106,45 @@ fn read_name(bytes: &[u8]) -> Option<Call<'_>>
     }
 }
 
-/// The call that the words say.
-fn read_call(words: &[u8]) -> Option<Call<'_>>
-    ensures { option_map call_of result ≡ call_words (word words.now) (behind words.now) }
+/// The word with that spelling.
+fn verb_named(word: &[u8]) -> Option<Verb>
+    ensures { result ≡ verb_in word.now }
 {
-    let (first, rest) = split_word(words);
-    if same(first, b"lay") {
-        read_lay(rest)
-    } else if same(first, b"strike") {
-        read_strike(rest)
-    } else if same(first, b"retime") {
-        read_retime(rest)
-    } else if same(first, b"name") {
-        read_name(rest)
-    } else {
-        None
+    match word {
+        b"lay" => Some(Verb::Lay),
+        b"strike" => Some(Verb::Strike),
+        b"retime" => Some(Verb::Retime),
+        b"name" => Some(Verb::Name),
+        b"rule" => Some(Verb::Rule),
+        b"route" => Some(Verb::Route),
+        b"survey" => Some(Verb::Survey),
+        _ => None,
     }
 }
 
-/// What a line that has words says.
-fn read_words(words: &[u8]) -> Line<'_>
-    ensures { said result ≡ says_words (word words.now) (behind words.now) }
+/// What a line that has words says, if it can be read.
+fn read_words(words: &[u8]) -> Option<Line<'_>>
+    ensures { said result ≡ says_by (verb_in (word words.now)) (behind words.now) }
 {
     let (first, rest) = split_word(words);
-    if same(first, b"rule") {
-        match read_rule(rest) {
-            Some(ruling) => Line::Rule(ruling),
-            None => Line::Unreadable,
-        }
-    } else if same(first, b"route") {
-        match read_route(rest) {
-            Some(question) => Line::Route(question),
-            None => Line::Unreadable,
-        }
-    } else if same(first, b"survey") {
-        match read_survey(rest) {
-            Some(look) => Line::Survey(look),
-            None => Line::Unreadable,
-        }
-    } else {
-        match read_call(words) {
-            Some(call) => Line::Call(call),
-            None => Line::Unreadable,
-        }
+    match verb_named(first)? {
+        Verb::Lay => Some(Line::Call(read_lay(rest)?)),
+        Verb::Strike => Some(Line::Call(read_strike(rest)?)),
+        Verb::Retime => Some(Line::Call(read_retime(rest)?)),
+        Verb::Name => Some(Line::Call(read_name(rest)?)),
+        Verb::Rule => Some(Line::Rule(read_rule(rest)?)),
+        Verb::Route => Some(Line::Route(read_route(rest)?)),
+        Verb::Survey => Some(Line::Survey(read_survey(rest)?)),
     }
 }
 
-/// What a line says.
-pub fn read_line(line: &[u8]) -> Line<'_>
+/// What a line says, if it can be read.
+pub fn read_line(line: &[u8]) -> Option<Line<'_>>
     ensures { said result ≡ says line.now }
 {
     let words = trim(line);
     match words {
-        [] | [b'#', ..] => Line::Nothing,
+        [] | [b'#', ..] => Some(Line::Nothing),
         _ => read_words(words),
     }
 }

@@ -1,17 +1,15 @@
 -- A sheet, line by line.
-use Rattle.std.proofs.Common.{◌≡◌, ℕ, List, [], ◌∷◌, ◌++◌, sym, refl, ap, ◌∙◌, subst, append_assoc, append-nil}
+use Rattle.std.proofs.Common.{◌≡◌, ℕ, List, [], ◌∷◌, ◌++◌, map, sym, refl, ap, ◌∙◌, subst, append_assoc, append-nil}
 use Rattle.std.specs.List.{flat_map}
 use Rattle.track.specs.Answers.{Answer, gave, refused, if_gave}
 use Rattle.track.specs.Map.{Map, Call, after}
 use Rattle.track.specs.Calls.{afters, map_after, LeftBy}
-use Rattle.desk.specs.declared.rules.Rules.{Rules}
 use Rattle.desk.specs.Desks.{Desk, with_rule}
-use Rattle.desk.specs.Asking.{desk_of}
-use Rattle.sheet.specs.declared.rulings.Ruling.{Ruling}
-use Rattle.sheet.specs.declared.rulings.Ruling.TheVariants.{Choose, SetFlat, SetPoint, SetPair}
-use Rattle.sheet.specs.declared.questions.Question.{Question}
-use Rattle.sheet.specs.Words.{Said, nothing, unreadable, calls, rules, asks, says}
-use Rattle.sheet.specs.Sheet.{lines, called, sheet_calls}
+use Rattle.reader.specs.declared.rulings.Ruling.{Ruling}
+use Rattle.reader.specs.declared.rulings.Ruling.TheVariants.{Choose, SetFlat, SetPoint, SetPair}
+use Rattle.reader.specs.Words.{Said, nothing, unreadable, calls, rules, asks, looks, says}
+use Rattle.reader.specs.Sheet.{lines}
+use Rattle.sheet.specs.Sheet.{called, sheet_calls}
 use Rattle.sheet.specs.Ruled.{rule_of, ruling_answer, set_by}
 use Rattle.sheet.specs.Replies.{Reply, Told, left, lefts, AllTold, GoesOn}
 
@@ -22,12 +20,6 @@ afters_append m (c ∷ cs) ds = afters_append (after m c) cs ds
 pub goes_on : (m n : Map) (cs : List Call) → n ≡ afters m cs → GoesOn m cs n
 unfolding LeftBy map_after
 goes_on m n cs e before was = e ∙ ap (λ k. afters k cs) was ∙ sym (afters_append _ before cs)
-
--- a question leaves everything as it was
-pub asked_line : (m : Map) (t : Rules) (s : Said) (q : Question) (n : Map) (r : Reply) → asks q ≡ s → Told (desk_of m t) (asks q) r → n ≡ m
-    → Told (desk_of m t) s r × (desk_of n t ≡ left (desk_of m t) s) × GoesOn m (called s) n
-asked_line m t s q n r e told same =
-    (subst (λ z. Told (desk_of m t) z r) e told, ap (λ k. desk_of k t) same ∙ ap (left (desk_of m t)) e, goes_on m n (called s) (same ∙ ap (λ z. afters m (called z)) e))
 
 -- a ruling leaves the map as it was
 if_gave_map : (a : Answer (Unit {0})) (x y : Desk) → x.map ≡ y.map → (if_gave a x y).map ≡ y.map
@@ -46,6 +38,11 @@ left_map d unreadable = refl
 left_map d (calls c) = refl
 left_map d (rules x) = if_gave_map (ruling_answer x) (with_rule (set_by d x) (rule_of x)) d (set_map d x)
 left_map d (asks q) = refl
+left_map d (looks l) = refl
+
+pub said_calls : (ls : List (List ℕ)) → flat_map (λ line. called (says line)) ls ≡ flat_map called (map says ls)
+said_calls [] = refl
+said_calls (l ∷ ls) = ap (λ z. called (says l) ++ z) (said_calls ls)
 
 -- what is left of the sheet, at the desk that the lines so far left, with what was told of them
 pub record SheetTo (start : Desk) (text : List ℕ) (told : List Reply) (d : Desk) (rest : List ℕ) : Type 0 where

@@ -1,13 +1,7 @@
-pub mod Scan
-pub mod Rulings
-pub mod Questions
-pub mod Words
 pub mod Sheet
 pub mod Plain
 pub mod Ruled
-pub mod Answered
 pub mod Replies
-pub mod Said
+pub mod Outcomes
 pub mod Wording
 pub mod Winches
-pub mod Hex

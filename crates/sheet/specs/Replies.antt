@@ -1,26 +1,20 @@
 -- What the crew is told of each line, and what the lines leave of the desk.
 use Rattle.std.specs.Prelude.{◌≡◌, ℕ, List, [], ◌∷◌, ◌++◌}
-use Rattle.track.specs.declared.rig.GetIn.{GetIn}
 use Rattle.track.specs.Answers.{Answer, gave, refused}
 use Rattle.track.specs.Map.{Map, Call, after, lay_answer, run_answer, name_answer}
 use Rattle.track.specs.Map.Call.{Lay, Strike, Retime, Name, Open, Close, Write, Survey, Route}
 use Rattle.track.specs.Calls.{map_of, LeftBy}
 use Rattle.tape.specs.declared.command.KindName.{KindName}
 use Rattle.tape.specs.declared.command.RuleName.{RuleName}
-use Rattle.desk.specs.declared.rules.Rules.{Rules}
 use Rattle.desk.specs.Desks.{Desk, with_map}
-use Rattle.desk.specs.Asking.{desk_of}
-use Rattle.sheet.specs.Words.{Said, nothing, unreadable, calls, rules, asks, says}
+use Rattle.desk.specs.Asking.{desk_of, AskDone}
+use Rattle.reader.specs.Words.{Said, nothing, unreadable, calls, rules, asks, looks, says}
+use Rattle.sheet.specs.declared.obey.Desk as code
 use Rattle.sheet.specs.Ruled.{rule_of, ruling_answer, ruled}
-use Rattle.sheet.specs.Answered.{Answered}
 
--- the map that a rig in get-in holds
-abbrev pub map_in : GetIn → Map
-map_in rig = map_of rig.layout
-
--- that map beside the rules
-abbrev pub desk_in : GetIn → Rules → Desk
-desk_in rig t = desk_of (map_in rig) t
+-- the map of a desk's rig beside its rules
+abbrev pub desk_in : code.Desk → Desk
+desk_in d = desk_of (map_of d.rig) d.rules
 
 pub data Reply : Type 0 where
   -- of a line that says nothing
@@ -57,7 +51,9 @@ Told d nothing r = r ≡ silence
 Told d unreadable r = r ≡ cannot_be_read
 Told d (calls c) r = r ≡ call_reply d.map c
 Told d (rules x) r = r ≡ told_as (λ _. in_force (rule_of x)) (ruling_answer x)
-Told d (asks q) r = (a : Answer (ℕ × List ℕ)) × (r ≡ told_as (λ x. routed q.kind x.0 x.1) a) × Answered d q a
+Told d (asks q) r = (a : Answer (ℕ × List ℕ)) × (r ≡ told_as (λ x. routed q.kind x.0 x.1) a) × AskDone d q.kind q.home q.mark a
+-- a sheet asks no survey: a line that does is told as one that cannot be read
+Told d (looks l) r = r ≡ cannot_be_read
 
 -- the desk that one line leaves
 abbrev pub left : Desk → Said → Desk
@@ -66,6 +62,7 @@ left d unreadable = d
 left d (calls c) = with_map d (after d.map c)
 left d (rules x) = ruled d x
 left d (asks q) = d
+left d (looks l) = d
 
 -- the desk that all the lines leave
 abbrev pub lefts : Desk → List (List ℕ) → Desk

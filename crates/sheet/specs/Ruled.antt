@@ -4,8 +4,8 @@ use Rattle.tape.specs.declared.command.RuleName.TheVariants.{Flat, Point, Pair}
 use Rattle.track.specs.Answers.{Answer, gave, if_gave}
 use Rattle.walks.specs.Settings.{point_answer, point_after, pair_answer, pair_after}
 use Rattle.desk.specs.Desks.{Desk, with_flat, with_point, with_pair, with_rule}
-use Rattle.sheet.specs.declared.rulings.Ruling.{Ruling}
-use Rattle.sheet.specs.declared.rulings.Ruling.TheVariants.{Choose, SetFlat, SetPoint, SetPair}
+use Rattle.reader.specs.declared.rulings.Ruling.{Ruling}
+use Rattle.reader.specs.declared.rulings.Ruling.TheVariants.{Choose, SetFlat, SetPoint, SetPair}
 
 -- the rule that a ruling speaks of
 abbrev pub rule_of : Ruling → RuleName

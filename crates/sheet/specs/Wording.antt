@@ -1,44 +1,31 @@
--- What is printed of an outcome, of a run and of a route.
-use Rattle.std.specs.Prelude.{ℕ, ◌/◌, ◌%◌, cond, List, [], ◌++◌, Some, None, codes, decimal, Option, ◌==◌}
+-- What is printed of what was done or refused, of a run and of a route.
+use Rattle.std.specs.Prelude.{ℕ, ◌/◌, ◌%◌, cond, List, [], ◌++◌, length, Some, None, codes, decimal, Option, ◌==◌}
 use Rattle.track.specs.declared.run.Run.{Run}
-use Rattle.track.specs.declared.refusal.MapRefusal.{MapRefusal}
-use Rattle.track.specs.declared.refusal.MapRefusal.TheVariants.{NoPoint, SamePoint, NoWinch, StrainTooHigh, MapFull, NoRun, RunStruck, BadName}
-use Rattle.track.specs.Refusals.{number}
-use Rattle.sheet.specs.declared.outcomes.Outcome.{Outcome}
-use Rattle.sheet.specs.declared.outcomes.Outcome.TheVariants.{Silence, CannotBeRead, Laid, Struck, Retimed, Named, Refused, InForce, RuleRefused, Routed, NotRouted}
-use Rattle.sheet.specs.declared.routes.Route.{Route}
+use Rattle.track.specs.Refusals as map_refusals
+use Rattle.walks.specs.Refusals as rule_refusals
+use Rattle.routing.specs.Refusals as search_refusals
+use Rattle.routing.specs.declared.refusal.SearchRefusal.TheVariants.{NoWay}
+use Rattle.sheet.specs.declared.outcomes.Done.{Done}
+use Rattle.sheet.specs.declared.outcomes.Done.TheVariants.{Silence, Laid, Struck, Retimed, Named, InForce, Routed}
+use Rattle.sheet.specs.declared.outcomes.Refused.{Refused}
+use Rattle.sheet.specs.declared.outcomes.Refused.TheVariants.{Unreadable, Call, Rule, Search}
 use Rattle.sheet.specs.declared.routes.HandOver.{HandOver}
 use Rattle.tape.specs.declared.command.KindName.{KindName}
 use Rattle.tape.specs.declared.command.KindName.TheVariants.{Time, Strain, HandOvers}
-use Rattle.tape.specs.declared.command.RuleName.{RuleName}
-use Rattle.tape.specs.declared.command.RuleName.TheVariants.{Flat, Point, Pair}
+use Rattle.tape.specs.Letters.{rule_word}
 use Rattle.walks.specs.Costs.{change}
 use Rattle.walks.specs.Walks.{differ}
-use Rattle.walks.specs.declared.refusal.RuleRefusal.{RuleRefusal}
-use Rattle.walks.specs.declared.refusal.RuleRefusal.TheVariants as rule
-use Rattle.routing.specs.declared.refusal.SearchRefusal.{SearchRefusal}
-use Rattle.routing.specs.declared.refusal.SearchRefusal.TheVariants as search
-
-abbrev pub reason : MapRefusal → List ℕ
-reason NoPoint = codes "point above 127"
-reason SamePoint = codes "tail and head are the same point"
-reason NoWinch = codes "winch above 15"
-reason StrainTooHigh = codes "strain above 100"
-reason MapFull = codes "256 runs have been laid"
-reason NoRun = codes "no such run"
-reason RunStruck = codes "run is struck"
-reason BadName = codes "a name is eight bytes from 32 to 126"
 
 -- tenths of a second, in seconds with one decimal
 abbrev pub seconds : ℕ → List ℕ
-seconds tenths = decimal (tenths / 10) ++ (codes "." ++ decimal (tenths % 10))
+seconds n = decimal (n / 10) ++ (codes "." ++ decimal (n % 10))
 
 abbrev pub percent : ℕ → List ℕ
 percent n = decimal n ++ codes " %"
 
 -- tenths of a second, in seconds and as they are
 abbrev pub tenths : ℕ → List ℕ
-tenths n = decimal (n / 10) ++ (codes "." ++ (decimal (n % 10) ++ (codes " s (" ++ (decimal n ++ codes " tenths)"))))
+tenths n = seconds n ++ (codes " s (" ++ (decimal n ++ codes " tenths)"))
 
 -- the end of a word for several
 abbrev pub plural : ℕ → List ℕ
@@ -50,39 +37,30 @@ cost_words Time c = tenths c
 cost_words Strain c = percent c
 cost_words HandOvers c = decimal (c / change) ++ (codes " hand-over" ++ (plural (c / change) ++ (codes ", " ++ tenths (c % change))))
 
-abbrev pub route_words : Route → List ℕ
-route_words r = cost_words r.kind r.cost ++ (codes " by " ++ (decimal r.count ++ (codes " run" ++ plural r.count)))
+-- a route by its cost, and how many runs it has
+abbrev pub route_words : KindName → (cost count : ℕ) → List ℕ
+route_words kind cost count = cost_words kind cost ++ (codes " by " ++ (decimal count ++ (codes " run" ++ plural count)))
 
-abbrev pub rule_name : RuleName → List ℕ
-rule_name Flat = codes "flat"
-rule_name Point = codes "point"
-rule_name Pair = codes "pair"
+-- a refusal by its number, with its reason
+abbrev pub numbered : ℕ → List ℕ → List ℕ
+numbered n reason = codes "refused " ++ (decimal n ++ (codes ": " ++ reason))
 
-abbrev pub rule_refusal : RuleRefusal → List ℕ
-rule_refusal rule.NoPoint = codes "refused 1: point above 127"
-rule_refusal rule.NoWinch = codes "refused 3: winch above 15"
-rule_refusal rule.SameWinch = codes "refused 12: the same winch twice"
+abbrev pub done_words : Done → List ℕ
+done_words Silence = []
+done_words (Laid run) = codes "run " ++ decimal run
+done_words Struck = codes "struck"
+done_words Retimed = codes "retimed"
+done_words Named = codes "named"
+done_words (InForce rule) = codes "rule " ++ (rule_word rule ++ codes " in force")
+done_words (Routed kind r) = route_words kind r.cost (length r.runs.items)
 
--- the sheet lends table and list of full length, so that only the first and the last are told
-abbrev pub no_route : SearchRefusal → List ℕ
-no_route search.NoPoint = codes "refused 1: point above 127"
-no_route search.TableShort = codes "refused 8: work table too short"
-no_route search.ListShort = codes "refused 9: list too short"
-no_route search.BoardShort = codes "refused 10: board too short"
-no_route search.NoWay = codes "no way"
-
-abbrev pub wording : Outcome → List ℕ
-wording Silence = []
-wording CannotBeRead = codes "cannot be read"
-wording (Laid run) = codes "run " ++ decimal run
-wording Struck = codes "struck"
-wording Retimed = codes "retimed"
-wording Named = codes "named"
-wording (Refused r) = codes "refused " ++ (decimal (number r) ++ (codes ": " ++ reason r))
-wording (InForce rule) = codes "rule " ++ (rule_name rule ++ codes " in force")
-wording (RuleRefused e) = rule_refusal e
-wording (Routed r) = route_words r
-wording (NotRouted e) = no_route e
+abbrev pub refused_words : Refused → List ℕ
+refused_words Unreadable = codes "cannot be read"
+refused_words (Call e) = numbered (map_refusals.number e) (map_refusals.reason e)
+refused_words (Rule e) = numbered (rule_refusals.number e) (rule_refusals.reason e)
+-- that there is no way is an answer, and goes by no number
+refused_words (Search NoWay) = search_refusals.reason NoWay
+refused_words (Search e) = numbered (search_refusals.number e) (search_refusals.reason e)
 
 -- a run of the map, by its number
 abbrev pub run_line : ℕ → Run → List ℕ

@@ -1,5 +1,5 @@
 ghost use Rattle.std.specs.Prelude.{◌≡◌, Some};
-ghost use Rattle.sheet.specs.Wording.{tenths as tenths_words, plural, cost_words};
+ghost use Rattle.sheet.specs.Wording.{seconds, plural, cost_words};
 
 use std::fmt;
 use tape::command::KindName;
@@ -7,18 +7,17 @@ use tape::command::KindName;
 /// What a hand-over counts for in a cost by hand-overs; the rest is time.
 const CHANGE: u64 = 4_294_967_296;
 
-/// A time in tenths of a second, shown in seconds and in tenths.
+/// A time in tenths of a second, shown in seconds.
 #[derive(Clone, Copy)]
-pub struct Tenths(pub u64);
+pub struct Seconds(pub u64);
 
-impl fmt::Display for Tenths {
-    ghost output = { λ t. Some (tenths_words t.0) };
+impl fmt::Display for Seconds {
+    ghost output = { λ s. Some (seconds s.0) };
 
     fn fmt<W: fmt::Write>(&self, f: &mut fmt::Formatter<W>) -> fmt::Result {
-        let tenths = self.0;
         let whole = self.0 / 10;
         let tenth = self.0 % 10;
-        write!(f, "{whole}.{tenth} s ({tenths} tenths)")
+        write!(f, "{whole}.{tenth}")
     }
 }
 
@@ -43,15 +42,16 @@ impl fmt::Display for Cost {
         let value = self.value;
         match self.kind {
             KindName::Time => {
-                let time = Tenths(value);
-                write!(f, "{time}")
+                let time = Seconds(value);
+                write!(f, "{time} s ({value} tenths)")
             }
             KindName::Strain => write!(f, "{value} %"),
             KindName::HandOvers => {
                 let count = value / CHANGE;
                 let end = plural_end(count);
-                let time = Tenths(value % CHANGE);
-                write!(f, "{count} hand-over{end}, {time}")
+                let tenths = value % CHANGE;
+                let time = Seconds(tenths);
+                write!(f, "{count} hand-over{end}, {time} s ({tenths} tenths)")
             }
         }
     }

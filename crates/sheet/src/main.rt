@@ -3,34 +3,29 @@
 #![tactic(auto)]
 
 mod costs;
-mod hex;
 mod obey;
 mod outcomes;
-mod questions;
 mod routes;
-mod rulings;
 mod run_lines;
-mod scan;
+mod tape_text;
 mod winches;
-mod words;
 
-use desk::rules::Rules;
-use hex::tape_text;
-use obey::obey_sheet;
-use outcomes::Outcome;
-use routes::{Hop, Route, hand_over};
+use obey::Desk;
+use outcomes::{Done, Outcome};
+use routes::{Hop, hand_over};
 use run_lines::RunLine;
 use std::io;
 use std::io::{Read, Write};
-use track::rig::GetIn;
+use tape_text::tape_text;
+use track::rig::{GetIn, Rig};
 use track::run::Run;
 use winches::winches_in_use;
 
 /// Prints a route run by run, with each hand-over on the way. A run's points and its winch stay as they are laid.
-fn print_route(rt: &HostRuntime, runs: &[Run], route: &Route) -> io::Result<()> {
+fn print_route(rt: &HostRuntime, runs: &[Run], route: &[u16]) -> io::Result<()> {
     let mut before: Option<Run> = None;
-    for number in route.list.iter().take(route.count) {
-        if let Some(run) = runs.get(*number as usize) {
+    for number in route {
+        if let Some(run) = runs.get(usize::from(*number)) {
             if let Some(last) = before {
                 if let Some(change) = hand_over(last, *run) {
                     rt.println(change)?;
@@ -49,20 +44,23 @@ fn print_route(rt: &HostRuntime, runs: &[Run], route: &Route) -> io::Result<()> 
 /// Prints what came of each line, by its number from 1 on; of comments, nothing.
 fn print_outcomes(rt: &HostRuntime, runs: &[Run], outcomes: &[Outcome]) -> io::Result<()> {
     for (i, outcome) in outcomes.iter().enumerate() {
-        if let Outcome::Silence = outcome {
-            continue;
-        }
         let number = i + 1;
-        println!(rt; "line {number}: {outcome}")?;
-        if let Outcome::Routed(route) = outcome {
-            print_route(rt, runs, route)?;
+        match outcome {
+            Ok(Done::Silence) => {}
+            Ok(done) => {
+                println!(rt; "line {number}: {done}")?;
+                if let Done::Routed { route, .. } = done {
+                    print_route(rt, runs, &route.runs)?;
+                }
+            }
+            Err(refused) => println!(rt; "line {number}: {refused}")?,
         }
     }
     Ok(())
 }
 
 /// Prints the runs in use.
-fn print_runs(rt: &HostRuntime, rig: &GetIn) -> io::Result<()> {
+fn print_runs(rt: &HostRuntime, rig: &Rig<GetIn>) -> io::Result<()> {
     for (number, run) in rig.runs().iter().enumerate() {
         if !run.struck {
             rt.println(RunLine { number, run: *run })?;
@@ -72,7 +70,7 @@ fn print_runs(rt: &HostRuntime, rig: &GetIn) -> io::Result<()> {
 }
 
 /// Prints the points that have a name.
-fn print_names(rt: &HostRuntime, rig: &GetIn) -> io::Result<()> {
+fn print_names(rt: &HostRuntime, rig: &Rig<GetIn>) -> io::Result<()> {
     for (point, name) in rig.names().iter().enumerate() {
         if *name != [b' '; 8] {
             print!(rt; "point {point}: ")?;
@@ -87,15 +85,14 @@ fn print_names(rt: &HostRuntime, rig: &GetIn) -> io::Result<()> {
 fn run(rt: &HostRuntime) -> anyhow::Result<()> {
     let mut text = Vec::new(rt.alloc());
     rt.stdin().read_to_end(&mut text)?;
-    let mut rig = GetIn::new();
-    let mut rules = Rules::new();
-    let outcomes = obey_sheet(rt.alloc(), &mut rig, &mut rules, &text)?;
-    print_outcomes(rt, rig.runs(), &outcomes)?;
-    print_runs(rt, &rig)?;
-    print_names(rt, &rig)?;
-    let winches = winches_in_use(rig.runs());
+    let mut desk = Desk::new();
+    let outcomes = desk.obey_sheet(rt.alloc(), &text)?;
+    print_outcomes(rt, desk.rig.runs(), &outcomes)?;
+    print_runs(rt, &desk.rig)?;
+    print_names(rt, &desk.rig)?;
+    let winches = winches_in_use(desk.rig.runs());
     println!(rt; "winches in use: {winches}")?;
-    rt.println(tape_text(rt.alloc(), &rig)?)?;
+    rt.println(tape_text(rt.alloc(), &desk.rig)?)?;
     Ok(())
 }
 

@@ -1,43 +1,39 @@
-ghost use Rattle.std.specs.Prelude.{◌≡◌, ◌<◌, [], ◌∷◌, map, length, IfOk, OnOk};
-ghost use Rattle.track.specs.Refusals.{number};
-ghost use Rattle.track.specs.Answers.{told};
-ghost use Rattle.track.specs.Map.{Map, after};
+ghost use Rattle.std.specs.Prelude.{◌≡◌, [], ◌∷◌, map, IfOk, OnOk};
+ghost use Rattle.track.specs.Map.{Map, after, blank};
 ghost use Rattle.track.specs.Calls.{map_of};
+ghost use Rattle.desk.specs.Desks.{new_desk};
 ghost use Rattle.desk.specs.Asking.{desk_of};
-ghost use Rattle.sheet.specs.Words.{says, asks};
-ghost use Rattle.sheet.specs.Sheet.{lines, called, sheet_calls};
+ghost use Rattle.reader.specs.Words.{says, asks};
+ghost use Rattle.reader.specs.Sheet.{lines};
+ghost use Rattle.reader.specs.Said.{call_of};
+ghost use Rattle.sheet.specs.Sheet.{called, sheet_calls};
+ghost use Rattle.sheet.specs.Plain.{SheetReadsBack};
 ghost use Rattle.sheet.specs.Ruled.{rule_of, ruling_answer, ruled};
-ghost use Rattle.sheet.specs.Replies.{map_in, desk_in, in_force, told_as, call_reply, Told, left, lefts, AllTold, GoesOn};
-ghost use Rattle.sheet.specs.Said.{call_of, replied};
+ghost use Rattle.sheet.specs.Replies.{desk_in, in_force, told_as, call_reply, Told, left, lefts, AllTold, GoesOn};
+ghost use Rattle.sheet.specs.Outcomes.{replied};
 
-use crate::outcomes::Outcome;
-use crate::questions::Question;
-use crate::routes::Route;
-use crate::rulings::Ruling;
-use crate::words::{Call, Line, read_line};
+use crate::outcomes::{Done, Outcome, Refused};
 use desk::rules::Rules;
+use reader::rulings::Ruling;
+use reader::text::first_line;
+use reader::words::{Call, Line, read_line};
 use std::alloc::{AllocError, Global};
 use std::mem;
-use tape::command::RuleName;
-use track::refusal::MapRefusal;
-use track::rig::{GetIn, Show};
-use track::run::MOST_RUNS;
+use tape::command::{Question, RuleName};
+use track::rig::{GetIn, Rig};
 
-/// `outcome`, unless the call was refused.
-fn unless_refused(answer: Result<(), MapRefusal>, outcome: Outcome) -> Outcome
-    ensures { replied result ≡ told_as (λ _. replied outcome) (told number answer) }
-{
-    match answer {
-        Ok(()) => outcome,
-        Err(refusal) => Outcome::Refused(refusal),
-    }
+/// A rig in get-in, and the rules by which it is asked.
+#[derive(Drop)]
+pub struct Desk {
+    pub rig: Rig<GetIn>,
+    pub rules: Rules,
 }
 
 /// Carries out a call on the rig.
-pub fn obey(rig: &mut GetIn, call: Call<'_>) -> Outcome
-    ensures told { replied result ≡ call_reply (map_in rig.old) (call_of call.entry) }
-    ensures after { map_in rig.new ≡ after (map_in rig.old) (call_of call.entry) }
-    ensures law { GoesOn (map_in rig.old) (call_of call.entry ∷ []) (map_in rig.new) }
+pub fn obey(rig: &mut Rig<GetIn>, call: Call<'_>) -> Outcome
+    ensures told { replied result ≡ call_reply (map_of rig.old) (call_of call.entry) }
+    ensures after { map_of rig.new ≡ after (map_of rig.old) (call_of call.entry) }
+    ensures law { GoesOn (map_of rig.old) (call_of call.entry ∷ []) (map_of rig.new) }
 {
     match call {
         Call::Lay {
@@ -46,13 +42,19 @@ pub fn obey(rig: &mut GetIn, call: Call<'_>) -> Outcome
             winch,
             time,
             strain,
-        } => match rig.lay(tail, head, winch, time, strain) {
-            Ok(run) => Outcome::Laid(run),
-            Err(refusal) => Outcome::Refused(refusal),
-        },
-        Call::Strike { run } => unless_refused(rig.strike(run), Outcome::Struck),
-        Call::Retime { run, time } => unless_refused(rig.retime(run, time), Outcome::Retimed),
-        Call::Name { point, text } => unless_refused(rig.name(point, text), Outcome::Named),
+        } => Ok(Done::Laid(rig.lay(tail, head, winch, time, strain)?)),
+        Call::Strike { run } => {
+            rig.strike(run)?;
+            Ok(Done::Struck)
+        }
+        Call::Retime { run, time } => {
+            rig.retime(run, time)?;
+            Ok(Done::Retimed)
+        }
+        Call::Name { point, text } => {
+            rig.name(point, text)?;
+            Ok(Done::Named)
+        }
     }
 }
 
@@ -61,127 +63,127 @@ fn obey_ruling(rules: &mut Rules, ruling: Ruling) -> Outcome
     ensures told { replied result ≡ told_as (λ _. in_force (rule_of ruling)) (ruling_answer ruling) }
     ensures after { (m : Map) → desk_of m rules.new ≡ ruled (desk_of m rules.old) ruling }
 {
-    match ruling {
-        Ruling::Choose { rule } => {
-            rules.in_force = rule;
-            Outcome::InForce(rule)
-        }
+    let rule = match ruling {
+        Ruling::Choose { rule } => rule,
         Ruling::SetFlat { setting } => {
             rules.flat.set(setting);
-            rules.in_force = RuleName::Flat;
-            Outcome::InForce(RuleName::Flat)
+            RuleName::Flat
         }
-        Ruling::SetPoint { point, setting } => match rules.point.set(point, setting) {
-            Ok(()) => {
-                rules.in_force = RuleName::Point;
-                Outcome::InForce(RuleName::Point)
-            }
-            Err(refusal) => Outcome::RuleRefused(refusal),
-        },
+        Ruling::SetPoint { point, setting } => {
+            rules.point.set(point, setting)?;
+            RuleName::Point
+        }
         Ruling::SetPair {
             arriving,
             leaving,
             setting,
-        } => match rules.pair.set(arriving, leaving, setting) {
-            Ok(()) => {
-                rules.in_force = RuleName::Pair;
-                Outcome::InForce(RuleName::Pair)
-            }
-            Err(refusal) => Outcome::RuleRefused(refusal),
-        },
-    }
+        } => {
+            rules.pair.set(arriving, leaving, setting)?;
+            RuleName::Pair
+        }
+    };
+    rules.in_force = rule;
+    Ok(Done::InForce(rule))
 }
 
-/// Asks a route of an opened rig.
-fn ask(show: &Show, rules: &Rules, question: Question) -> Outcome
-    ensures { Told (desk_of (map_of show.now.layout) rules.now) (asks question) (replied result) }
-{
-    let mut list = [0; MOST_RUNS];
-    match rules.ask(show, question.kind, question.home, question.mark, &mut list) {
-        Ok(found) => Outcome::Routed(Route {
-            kind: question.kind,
-            cost: found.cost,
-            count: found.runs,
-            list,
-        }),
-        Err(refusal) => Outcome::NotRouted(refusal),
-    }
-}
-
-/// Opens the rig, asks a route of it, and closes it again.
-fn answer(rig: &mut GetIn, rules: &Rules, question: Question) -> Outcome
-    ensures told { Told (desk_in rig.old rules.now) (asks question) (replied result) }
-    ensures same { map_in rig.new ≡ map_in rig.old }
-{
-    let show = mem::replace(rig, GetIn::new()).open();
-    let outcome = ask(&show, rules, question);
-    *rig = show.close();
-    outcome
-}
-
-/// Carries out what a line says.
-pub fn obey_line(rig: &mut GetIn, rules: &mut Rules, line: &[u8]) -> Outcome
-    ensures told { Told (desk_in rig.old rules.old) (says line.now) (replied result) }
-    ensures after { desk_in rig.new rules.new ≡ left (desk_in rig.old rules.old) (says line.now) }
-    ensures law { GoesOn (map_in rig.old) (called (says line.now)) (map_in rig.new) }
-{
-    match read_line(line) {
-        Line::Nothing => Outcome::Silence,
-        Line::Unreadable => Outcome::CannotBeRead,
-        Line::Call(call) => obey(rig, call),
-        Line::Rule(ruling) => obey_ruling(rules, ruling),
-        Line::Route(question) => answer(rig, rules, question),
-    }
-}
-
-/// The first line of a text, without its line feed, and the text behind it.
-fn split_line(text: &[u8]) -> (&[u8], &[u8])
-    requires { 0 < length text.now }
-    ensures cut { lines text.now ≡ result.0.now ∷ lines result.1.now }
-    ensures less { length result.1.now < length text.now }
-{
-    for (i, b) in text.iter().enumerate() {
-        if *b == b'\n' {
-            return (&text[0..i], &text[i + 1..]);
+impl Desk {
+    /// A new rig, and the rules as they begin.
+    pub fn new() -> Desk
+        ensures { desk_in result ≡ new_desk }
+    {
+        Desk {
+            rig: Rig::new(),
+            rules: Rules::new(),
         }
     }
-    (text, &[])
+
+    /// Opens the rig, asks a route of it, and closes it again.
+    fn answer(&mut self, question: Question) -> Outcome
+        ensures told { Told (desk_in self.old) (asks question) (replied result) }
+        ensures same { desk_in self.new ≡ desk_in self.old }
+    {
+        let show = mem::replace(&mut self.rig, Rig::new()).open();
+        let answer = self.rules.ask(&show, question);
+        self.rig = show.close();
+        Ok(Done::Routed {
+            kind: question.kind,
+            route: answer?,
+        })
+    }
+
+    /// Carries out what a line says.
+    pub fn obey_line(&mut self, line: &[u8]) -> Outcome
+        ensures told { Told (desk_in self.old) (says line.now) (replied result) }
+        ensures after { desk_in self.new ≡ left (desk_in self.old) (says line.now) }
+        ensures law { GoesOn (map_of self.old.rig) (called (says line.now)) (map_of self.new.rig) }
+    {
+        match read_line(line) {
+            // A sheet asks no survey.
+            None | Some(Line::Survey(_)) => Err(Refused::Unreadable),
+            Some(Line::Nothing) => Ok(Done::Silence),
+            Some(Line::Call(call)) => obey(&mut self.rig, call),
+            Some(Line::Rule(ruling)) => obey_ruling(&mut self.rules, ruling),
+            Some(Line::Route(question)) => self.answer(question),
+        }
+    }
+
+    /// Carries out what each line of a sheet says, and tells what came of each.
+    pub fn obey_sheet(&mut self, heap: Global, text: &[u8]) -> Result<Vec<Outcome>, AllocError>
+        ensures told { IfOk result (λ v. AllTold (desk_in self.old) (lines text.now) (map replied v.items)) }
+        ensures after { OnOk result (desk_in self.new ≡ lefts (desk_in self.old) (lines text.now)) }
+        ensures law { OnOk result (GoesOn (map_of self.old.rig) (sheet_calls text.now) (map_of self.new.rig)) }
+    {
+        let mut outcomes = Vec::new(heap);
+        let mut rest = text;
+        while let Some((line, more)) = first_line(rest) {
+            outcomes.push(self.obey_line(line))?;
+            rest = more;
+        }
+        Ok(outcomes)
+    }
 }
 
-/// Carries out what each line of a sheet says, and tells what came of each.
-pub fn obey_sheet(
-    heap: Global,
-    rig: &mut GetIn,
-    rules: &mut Rules,
-    text: &[u8],
-) -> Result<Vec<Outcome>, AllocError>
-    ensures told { IfOk result (λ v. AllTold (desk_in rig.old rules.old) (lines text.now) (map replied v.items)) }
-    ensures after { OnOk result (desk_in rig.new rules.new ≡ lefts (desk_in rig.old rules.old) (lines text.now)) }
-    ensures law { OnOk result (GoesOn (map_in rig.old) (sheet_calls text.now) (map_in rig.new)) }
+/// A sheet in plain words makes the calls that its lines say.
+pub fn plain_words_read_back()
+    ensures { SheetReadsBack }
 {
-    let mut outcomes = Vec::new(heap);
-    let mut rest = text;
-    while !rest.is_empty() {
-        let (line, more) = split_line(rest);
-        outcomes.push(obey_line(rig, rules, line))?;
-        rest = more;
-    }
-    Ok(outcomes)
+    reader::words::plain_words_read_back()
 }
 
 #[cfg(test)]
 mod tests {
     use super::*;
+    use track::refusal::MapRefusal;
 
     #[test]
     fn a_name_has_eight_bytes(rt: HostRuntime) {
-        let mut rig = GetIn::new();
-        let mut rules = Rules::new();
-        let seven = obey_line(&mut rig, &mut rules, b"name 3 UPSTAGE");
-        assert!(rt; matches!(seven, Outcome::Refused(MapRefusal::BadName)));
-        let eight = obey_line(&mut rig, &mut rules, b"name 3 UPSTAGE ");
-        assert!(rt; matches!(eight, Outcome::Named));
-        let nine = obey_line(&mut rig, &mut rules, b"name 3 UPSTAGE  ");
-        assert!(rt; matches!(nine, Outcome::Refused(MapRefusal::BadName)));
+        let mut desk = Desk::new();
+        let seven = desk.obey_line(b"name 3 UPSTAGE");
+        assert!(rt; matches!(seven, Err(Refused::Call(MapRefusal::BadName))));
+        let eight = desk.obey_line(b"name 3 UPSTAGE ");
+        assert!(rt; matches!(eight, Ok(Done::Named)));
+        let nine = desk.obey_line(b"name 3 UPSTAGE  ");
+        assert!(rt; matches!(nine, Err(Refused::Call(MapRefusal::BadName))));
+    }
+
+    fn is_call(line: &[u8]) -> bool {
+        matches!(read_line(line), Some(Line::Call(_)))
+    }
+
+    #[test]
+    fn numbers_end_at_their_limits(rt: HostRuntime) {
+        assert!(rt; is_call(b"lay 255 255 255 65535 255"));
+        assert!(rt; !is_call(b"lay 256 0 0 0 0"));
+        assert!(rt; !is_call(b"lay 0 256 0 0 0"));
+        assert!(rt; !is_call(b"lay 0 0 256 0 0"));
+        assert!(rt; !is_call(b"lay 0 0 0 65536 0"));
+        assert!(rt; !is_call(b"lay 0 0 0 0 256"));
+        assert!(rt; is_call(b"retime 65535 65535"));
+        assert!(rt; !is_call(b"retime 65536 0"));
+        assert!(rt; !is_call(b"retime 0 65536"));
+        assert!(rt; is_call(b"strike 00065535"));
+        assert!(rt; !is_call(b"strike 65536"));
+        assert!(rt; is_call(b"name 255 "));
+        assert!(rt; !is_call(b"name 256 "));
     }
 }

@@ -1,106 +1,115 @@
 ghost use Rattle.std.specs.Prelude.{◌≡◌, Some};
-ghost use Rattle.sheet.specs.Wording.{reason, rule_name, rule_refusal, no_route, wording};
+ghost use Rattle.sheet.specs.Wording.{done_words, refused_words};
 
-use crate::routes::Route;
+use crate::costs::{Cost, plural_end};
+use desk::ask::Route;
 use routing::refusal::SearchRefusal;
 use std::fmt;
-use tape::command::RuleName;
+use tape::command::{KindName, RuleName};
 use track::refusal::MapRefusal;
 use walks::refusal::RuleRefusal;
 
 /// What came of a line.
-#[derive(Clone, Copy, Drop)]
-pub enum Outcome {
+pub type Outcome = Result<Done, Refused>;
+
+/// What was done as a line said.
+#[derive(Drop)]
+pub enum Done {
     /// A blank line or a comment asks for nothing.
     Silence,
-    CannotBeRead,
     /// The run of that number was laid.
     Laid(u16),
     Struck,
     Retimed,
     Named,
-    Refused(MapRefusal),
     /// The rule for later questions.
     InForce(RuleName),
-    RuleRefused(RuleRefusal),
-    Routed(Route),
-    NotRouted(SearchRefusal),
+    Routed { kind: KindName, route: Route },
 }
 
-impl fmt::Display for Outcome {
-    ghost output = { λ o. Some (wording o) };
+/// Why a line was not done.
+#[derive(Clone, Copy, Drop)]
+pub enum Refused {
+    Unreadable,
+    Call(MapRefusal),
+    Rule(RuleRefusal),
+    Search(SearchRefusal),
+}
+
+impl From<MapRefusal> for Refused {
+    ghost use Rattle.sheet.specs.declared.outcomes.Refused.{Refused};
+
+    ghost from_gives = { λ refusal refused. refused ≡ Refused.Call refusal };
+
+    fn from(refusal: MapRefusal) -> Refused {
+        Refused::Call(refusal)
+    }
+}
+
+impl From<RuleRefusal> for Refused {
+    ghost use Rattle.sheet.specs.declared.outcomes.Refused.{Refused};
+
+    ghost from_gives = { λ refusal refused. refused ≡ Refused.Rule refusal };
+
+    fn from(refusal: RuleRefusal) -> Refused {
+        Refused::Rule(refusal)
+    }
+}
+
+impl From<SearchRefusal> for Refused {
+    ghost use Rattle.sheet.specs.declared.outcomes.Refused.{Refused};
+
+    ghost from_gives = { λ refusal refused. refused ≡ Refused.Search refusal };
+
+    fn from(refusal: SearchRefusal) -> Refused {
+        Refused::Search(refusal)
+    }
+}
+
+impl fmt::Display for Done {
+    ghost output = { λ done. Some (done_words done) };
 
     fn fmt<W: fmt::Write>(&self, f: &mut fmt::Formatter<W>) -> fmt::Result {
         match self {
-            Outcome::Silence => f.write_str(""),
-            Outcome::CannotBeRead => f.write_str("cannot be read"),
-            Outcome::Laid(run) => write!(f, "run {run}"),
-            Outcome::Struck => f.write_str("struck"),
-            Outcome::Retimed => f.write_str("retimed"),
-            Outcome::Named => f.write_str("named"),
-            Outcome::Refused(refusal) => {
-                let number = refusal.number();
-                let reason = reason_of(*refusal);
-                write!(f, "refused {number}: {reason}")
+            Done::Silence => Ok(()),
+            Done::Laid(run) => write!(f, "run {run}"),
+            Done::Struck => f.write_str("struck"),
+            Done::Retimed => f.write_str("retimed"),
+            Done::Named => f.write_str("named"),
+            Done::InForce(rule) => write!(f, "rule {rule} in force"),
+            Done::Routed { kind, route } => {
+                let cost = Cost {
+                    kind: *kind,
+                    value: route.cost,
+                };
+                let count = route.runs.len();
+                let end = plural_end(count as u64);
+                write!(f, "{cost} by {count} run{end}")
             }
-            Outcome::InForce(rule) => {
-                let name = name_of(*rule);
-                write!(f, "rule {name} in force")
-            }
-            Outcome::RuleRefused(refusal) => f.write_str(rule_refusal(*refusal)),
-            Outcome::Routed(route) => write!(f, "{route}"),
-            Outcome::NotRouted(refusal) => f.write_str(no_route(*refusal)),
         }
     }
 }
 
-/// Why a call was refused, in words.
-fn reason_of(refusal: MapRefusal) -> &'static str
-    ensures { result.now ≡ reason refusal }
-{
-    match refusal {
-        MapRefusal::NoPoint => "point above 127",
-        MapRefusal::SamePoint => "tail and head are the same point",
-        MapRefusal::NoWinch => "winch above 15",
-        MapRefusal::StrainTooHigh => "strain above 100",
-        MapRefusal::MapFull => "256 runs have been laid",
-        MapRefusal::NoRun => "no such run",
-        MapRefusal::RunStruck => "run is struck",
-        MapRefusal::BadName => "a name is eight bytes from 32 to 126",
-    }
-}
+impl fmt::Display for Refused {
+    ghost output = { λ refused. Some (refused_words refused) };
 
-/// The name of a rule, as a sheet has it.
-fn name_of(rule: RuleName) -> &'static str
-    ensures { result.now ≡ rule_name rule }
-{
-    match rule {
-        RuleName::Flat => "flat",
-        RuleName::Point => "point",
-        RuleName::Pair => "pair",
-    }
-}
-
-/// A refused ruling, in words.
-fn rule_refusal(refusal: RuleRefusal) -> &'static str
-    ensures { result.now ≡ rule_refusal refusal }
-{
-    match refusal {
-        RuleRefusal::NoPoint => "refused 1: point above 127",
-        RuleRefusal::NoWinch => "refused 3: winch above 15",
-        RuleRefusal::SameWinch => "refused 12: the same winch twice",
-    }
-}
-
-/// That there is no route, in words.
-fn no_route(refusal: SearchRefusal) -> &'static str
-    ensures { result.now ≡ no_route refusal }
-{
-    match refusal {
-        SearchRefusal::NoPoint => "refused 1: point above 127",
-        SearchRefusal::TableShort => "refused 8: work table too short",
-        SearchRefusal::ListShort => "refused 9: list too short",
-        SearchRefusal::BoardShort => "refused 10: board too short",
-        SearchRefusal::NoWay => "no way",
+    fn fmt<W: fmt::Write>(&self, f: &mut fmt::Formatter<W>) -> fmt::Result {
+        match self {
+            Refused::Unreadable => f.write_str("cannot be read"),
+            Refused::Call(refusal) => {
+                let number = u8::from(*refusal);
+                write!(f, "refused {number}: {refusal}")
+            }
+            Refused::Rule(refusal) => {
+                let number = u8::from(*refusal);
+                write!(f, "refused {number}: {refusal}")
+            }
+            // That there is no way is an answer, and goes by no number.
+            Refused::Search(SearchRefusal::NoWay) => write!(f, "{}", SearchRefusal::NoWay),
+            Refused::Search(refusal) => {
+                let number = u8::from(*refusal);
+                write!(f, "refused {number}: {refusal}")
+            }
+        }
     }
 }

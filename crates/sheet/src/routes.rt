@@ -1,33 +1,8 @@
 ghost use Rattle.std.specs.Prelude.{◌≡◌, Some};
-ghost use Rattle.sheet.specs.Wording.{route_words, hop_line, hand_over_line, hand_over};
+ghost use Rattle.sheet.specs.Wording.{hop_line, hand_over_line, hand_over};
 
-use crate::costs::{Cost, plural_end};
 use std::fmt;
-use tape::command::KindName;
-use track::run::{MOST_RUNS, Run};
-
-/// A route that was found: the first `count` runs of the list, in hauling order.
-#[derive(Clone, Copy, Drop)]
-pub struct Route {
-    pub kind: KindName,
-    pub cost: u64,
-    pub count: usize,
-    pub list: [u16; MOST_RUNS],
-}
-
-impl fmt::Display for Route {
-    ghost output = { λ r. Some (route_words r) };
-
-    fn fmt<W: fmt::Write>(&self, f: &mut fmt::Formatter<W>) -> fmt::Result {
-        let cost = Cost {
-            kind: self.kind,
-            value: self.cost,
-        };
-        let count = self.count;
-        let end = plural_end(count as u64);
-        write!(f, "{cost} by {count} run{end}")
-    }
-}
+use track::run::Run;
 
 /// A run of a route, with its number.
 #[derive(Clone, Copy)]

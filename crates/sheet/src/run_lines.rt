@@ -1,22 +1,9 @@
 ghost use Rattle.std.specs.Prelude.{Some};
-ghost use Rattle.sheet.specs.Wording.{seconds, percent, run_line};
+ghost use Rattle.sheet.specs.Wording.{percent, run_line};
 
+use crate::costs::Seconds;
 use std::fmt;
 use track::run::Run;
-
-/// A time in tenths of a second, shown in seconds.
-#[derive(Clone, Copy)]
-pub struct Seconds(pub u16);
-
-impl fmt::Display for Seconds {
-    ghost output = { λ s. Some (seconds s.0) };
-
-    fn fmt<W: fmt::Write>(&self, f: &mut fmt::Formatter<W>) -> fmt::Result {
-        let whole = self.0 / 10;
-        let tenth = self.0 % 10;
-        write!(f, "{whole}.{tenth}")
-    }
-}
 
 /// A share of the rated load.
 #[derive(Clone, Copy)]
@@ -46,7 +33,7 @@ impl fmt::Display for RunLine {
         let tail = self.run.tail;
         let head = self.run.head;
         let winch = self.run.winch;
-        let time = Seconds(self.run.time);
+        let time = Seconds(u64::from(self.run.time));
         let strain = Percent(self.run.strain);
         write!(
             f,

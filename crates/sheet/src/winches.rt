@@ -7,23 +7,12 @@ use track::run::{Run, WINCHES};
 fn is_in_use(runs: &[Run], winch: u8) -> bool
     ensures { result ≡ in_use runs.now winch }
 {
-    for run in runs {
-        if !run.struck && run.winch == winch {
-            return true;
-        }
-    }
-    false
+    runs.iter().any(|run| !run.struck && run.winch == winch)
 }
 
 /// How many winches the runs in use need.
-pub fn winches_in_use(runs: &[Run]) -> u8
+pub fn winches_in_use(runs: &[Run]) -> usize
     ensures { result ≡ winches_used runs.now }
 {
-    let mut count = 0;
-    for winch in 0..WINCHES {
-        if is_in_use(runs, winch) {
-            count += 1;
-        }
-    }
-    count
+    (0..WINCHES).filter(|winch| is_in_use(runs, *winch)).count()
 }

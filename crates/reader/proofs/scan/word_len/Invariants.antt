@@ -1,6 +1,0 @@
-use Rattle.std.proofs.Common.{◌≡◌, ◌+◌, length, drop}
-use Rattle.reader.specs.Scan.{word}
-use Rattle.reader.proofs.scan.word_len.Given as goal
-
-abbrev pub invariant-loop-i : goal.invariant-loop-i
-invariant-loop-i l = l.i + length (word (drop l.i l.bytes)) ≡ length (word l.bytes)
