@@ -1,7 +1,8 @@
 // Buffers to lend: filled with marks, so that it shows which places were written.
 use crate::fault::Fault;
-use routing::place::Place;
-use std::alloc::Global;
+use crate::relaxation::is_same;
+use routing::place::{Place, Reached};
+use std::alloc::{AllocError, Global};
 use walks::kind::CostKind;
 
 /// A run that no rig has.
@@ -10,12 +11,12 @@ const NO_RUN: u16 = 60_000;
 /// What place `i` of a table or a board is filled with: absent and reached in turn.
 fn marked_place<K: CostKind>(kind: &K, i: usize) -> Place<K::Cost> {
     if i % 2 == 0 {
-        Place::Absent
+        None
     } else {
-        Place::Reached {
+        Some(Reached {
             cost: kind.start(),
             run: Some(NO_RUN),
-        }
+        })
     }
 }
 
@@ -29,37 +30,24 @@ pub fn marked_places<K: CostKind>(
     heap: Global,
     kind: &K,
     count: usize,
-) -> Result<Vec<Place<K::Cost>>, Fault> {
-    let mut places = Vec::new(heap);
-    for i in 0..count {
-        places.push(marked_place(kind, i))?;
-    }
-    Ok(places)
+) -> Result<Vec<Place<K::Cost>>, AllocError> {
+    (0..count).map(|i| marked_place(kind, i)).collect(heap)
 }
 
 /// A list of this many places.
-pub fn marked_numbers(heap: Global, count: usize) -> Result<Vec<u16>, Fault> {
-    let mut numbers = Vec::new(heap);
-    for i in 0..count {
-        numbers.push(marked_number(i))?;
-    }
-    Ok(numbers)
+pub fn marked_numbers(heap: Global, count: usize) -> Result<Vec<u16>, AllocError> {
+    (0..count).map(marked_number).collect(heap)
+}
+
+/// The cost of a place, if there is a walk.
+pub fn cost_of<C: Copy>(place: Place<C>) -> Option<C> {
+    place.map(|reached| reached.cost)
 }
 
 /// Whether two places are the same.
 fn is_same_place<K: CostKind>(kind: &K, a: Place<K::Cost>, b: Place<K::Cost>) -> bool {
-    match a {
-        Place::Absent => match b {
-            Place::Absent => true,
-            Place::Reached { cost: _, run: _ } => false,
-        },
-        Place::Reached { cost: x, run: p } => match b {
-            Place::Absent => false,
-            Place::Reached { cost: y, run: q } => {
-                p == q && kind.at_most(x, y) && kind.at_most(y, x)
-            }
-        },
-    }
+    let run_of = |place: Place<K::Cost>| place.map(|reached| reached.run);
+    run_of(a) == run_of(b) && is_same(kind, cost_of(a), cost_of(b))
 }
 
 /// Whether the places from `first` on are as they were filled.
@@ -68,20 +56,20 @@ pub fn check_places<K: CostKind>(
     places: &[Place<K::Cost>],
     first: usize,
 ) -> Result<(), Fault> {
-    for (i, place) in places.iter().enumerate() {
-        if i >= first && !is_same_place(kind, *place, marked_place(kind, i)) {
-            return Err(Fault::Touched);
-        }
+    let mut rest = places.iter().enumerate().skip(first);
+    if rest.all(|(i, place)| is_same_place(kind, *place, marked_place(kind, i))) {
+        Ok(())
+    } else {
+        Err(Fault::Touched)
     }
-    Ok(())
 }
 
 /// Whether the numbers from `first` on are as they were filled.
 pub fn check_numbers(numbers: &[u16], first: usize) -> Result<(), Fault> {
-    for (i, number) in numbers.iter().enumerate() {
-        if i >= first && *number != marked_number(i) {
-            return Err(Fault::Touched);
-        }
+    let mut rest = numbers.iter().enumerate().skip(first);
+    if rest.all(|(i, number)| *number == marked_number(i)) {
+        Ok(())
+    } else {
+        Err(Fault::Touched)
     }
-    Ok(())
 }

@@ -1,29 +1,21 @@
 // Surveys and routes, held to the least costs that the relaxation found.
-use crate::buffers::{check_numbers, check_places, marked_numbers, marked_places};
+use crate::buffers::{check_numbers, check_places, cost_of, marked_numbers, marked_places};
 use crate::fault::Fault;
 use crate::price::{check_walk, walk_back};
 use crate::question::Question;
 use crate::relaxation::{is_same, least_to};
-use routing::place::Place;
+use routing::place::{Place, Reached};
 use routing::refusal::SearchRefusal;
 use routing::route::route;
 use routing::survey::survey;
 use std::alloc::Global;
-use track::rig::Show;
+use track::rig::{Rig, Show};
 use track::run::{POINTS, Run};
 use walks::kind::CostKind;
 use walks::rule::HandoverRule;
 
 /// How many places more than needed the buffers have.
 const MORE: usize = 3;
-
-/// The cost of a place, if there is a walk.
-fn cost_of<C: Copy>(place: Place<C>) -> Option<C> {
-    match place {
-        Place::Absent => None,
-        Place::Reached { cost, run: _ } => Some(cost),
-    }
-}
 
 /// Place `number` of a table: its cost is the least, and followed back it gives a walk of that cost.
 fn check_table_place<K: CostKind, R: HandoverRule>(
@@ -34,9 +26,7 @@ fn check_table_place<K: CostKind, R: HandoverRule>(
     run: Run,
     label: Option<K::Cost>,
 ) -> Result<(), Fault> {
-    let Some(place) = table.get(usize::from(number)) else {
-        return Err(Fault::TablePlace);
-    };
+    let place = table.get(usize::from(number)).ok_or(Fault::TablePlace)?;
     let told = cost_of(*place);
     if !is_same(asked.kind, told, label) {
         return Err(Fault::TablePlace);
@@ -55,39 +45,32 @@ fn check_table<K: CostKind, R: HandoverRule>(
     labels: &[Option<K::Cost>],
     table: &[Place<K::Cost>],
 ) -> Result<(), Fault> {
-    let mut number = 0u16;
-    for (run, label) in asked.runs.iter().zip(labels) {
+    for (number, (run, label)) in (0u16..).zip(asked.runs.iter().zip(labels)) {
         check_table_place(heap, asked, table, number, *run, *label)?;
-        number = number.saturating_add(1);
     }
     Ok(())
 }
 
-/// The last run that the board names for a point that is reached at this cost.
+/// The last run that the board names for a point that is reached.
 fn check_last_run<K: CostKind, R: HandoverRule>(
     asked: &Question<K, R>,
     table: &[Place<K::Cost>],
     point: u8,
-    cost: K::Cost,
-    last: Option<u16>,
+    reached: Reached<K::Cost>,
 ) -> Result<(), Fault> {
-    let Some(number) = last else {
+    let Some(number) = reached.run else {
         return if point == asked.home {
             Ok(())
         } else {
             Err(Fault::LastRun)
         };
     };
-    let Some(run) = asked.runs.get(usize::from(number)) else {
-        return Err(Fault::LastRun);
-    };
-    let Some(place) = table.get(usize::from(number)) else {
-        return Err(Fault::LastRun);
-    };
+    let run = asked.runs.get(usize::from(number)).ok_or(Fault::LastRun)?;
+    let place = table.get(usize::from(number)).ok_or(Fault::LastRun)?;
     if point == asked.home || run.head != point {
         return Err(Fault::LastRun);
     }
-    if !is_same(asked.kind, cost_of(*place), Some(cost)) {
+    if !is_same(asked.kind, cost_of(*place), Some(reached.cost)) {
         return Err(Fault::LastRun);
     }
     Ok(())
@@ -105,8 +88,8 @@ fn check_board_place<K: CostKind, R: HandoverRule>(
         return Err(Fault::BoardPlace);
     }
     match place {
-        Place::Absent => Ok(()),
-        Place::Reached { cost, run } => check_last_run(asked, table, point, cost, run),
+        Some(reached) => check_last_run(asked, table, point, reached),
+        None => Ok(()),
     }
 }
 
@@ -117,10 +100,8 @@ fn check_board<K: CostKind, R: HandoverRule>(
     table: &[Place<K::Cost>],
     board: &[Place<K::Cost>],
 ) -> Result<(), Fault> {
-    for point in 0..POINTS as u8 {
-        let Some(place) = board.get(usize::from(point)) else {
-            return Err(Fault::BoardPlace);
-        };
+    let places = board.get(..POINTS).ok_or(Fault::BoardPlace)?;
+    for (point, place) in (0u8..).zip(places) {
         check_board_place(asked, labels, table, point, *place)?;
     }
     Ok(())
@@ -129,7 +110,7 @@ fn check_board<K: CostKind, R: HandoverRule>(
 /// A survey: its table, its board, and that the places past them are untouched.
 pub fn check_survey<K: CostKind, R: HandoverRule>(
     heap: Global,
-    rig: &Show,
+    rig: &Rig<Show>,
     asked: &Question<K, R>,
     labels: &[Option<K::Cost>],
 ) -> Result<(), Fault> {
@@ -160,17 +141,15 @@ fn check_found<K: CostKind, R: HandoverRule>(
     if !is_same(asked.kind, Some(cost), least) {
         return Err(Fault::NotLeast);
     }
-    if count > list.len() {
-        return Err(Fault::TooLong);
-    }
-    check_walk(asked, mark, &list[0..count], cost)?;
+    let walk = list.get(..count).ok_or(Fault::TooLong)?;
+    check_walk(asked, mark, walk, cost)?;
     check_numbers(list, count)
 }
 
 /// A route: its answer and its list, the table that it leaves, and that the places past them are untouched.
 pub fn check_route<K: CostKind, R: HandoverRule>(
     heap: Global,
-    rig: &Show,
+    rig: &Rig<Show>,
     asked: &Question<K, R>,
     labels: &[Option<K::Cost>],
     mark: u8,
@@ -185,7 +164,7 @@ pub fn check_route<K: CostKind, R: HandoverRule>(
     check_places(asked.kind, &table, laid)?;
     let least = least_to(asked, labels, mark);
     match answer {
-        Ok(found) => check_found(asked, mark, least, found.1, found.0, &list),
+        Ok((count, cost)) => check_found(asked, mark, least, cost, count, &list),
         Err(SearchRefusal::NoWay) => {
             if least.is_some() {
                 return Err(Fault::Way);

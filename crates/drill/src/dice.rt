@@ -36,6 +36,6 @@ impl Dice {
     /// One of `choices`; `other` where there are none.
     pub fn pick<T: Copy>(&mut self, choices: &[T], other: T) -> T {
         let i = self.below(choices.len());
-        if i < choices.len() { choices[i] } else { other }
+        choices.get(i).copied().unwrap_or(other)
     }
 }

@@ -1,8 +1,9 @@
 use crate::dice::Dice;
 use crate::fault::Fault;
-use std::alloc::Global;
-use track::rig::GetIn;
-use track::run::Run;
+use rehearsal::worked::flat_at;
+use std::alloc::{AllocError, Global};
+use track::rig::{GetIn, Rig};
+use track::run::{MOST_RUNS, Run};
 use walks::by_pair::ByPair;
 use walks::by_point::ByPoint;
 use walks::flat::Flat;
@@ -19,38 +20,74 @@ const WINCHES_IN_USE: [u8; 4] = [0, 15, 1, 2];
 /// Settings to draw from: free, small, the highest penalty, and barred.
 const SETTINGS: [u16; 10] = [0, 0, 1, 2, 3, 5, 25, 65_534, 65_535, 65_535];
 
-/// How the times of a rig's runs are drawn.
-#[derive(Clone, Copy, Drop)]
-enum Times {
-    /// All 0, so that every ring is one of time 0.
-    Still,
-    /// All 1, so that many walks tie.
-    Equal,
-    /// Small, and often 0.
-    Small,
-    /// Up to the highest.
-    Wide,
-}
+/// Times that are small, and often 0.
+const SMALL: &[u16] = &[0, 0, 1, 1, 2, 3, 4, 7];
+
+/// What the times of a rig's runs are drawn from: all 0, so that every ring is one of time 0; all 1, so that many walks tie; small; up to the highest.
+const TIMES: [&[u16]; 5] = [
+    &[0],
+    &[1],
+    SMALL,
+    SMALL,
+    &[0, 1, 9, 300, 4_000, 65_534, 65_535],
+];
 
 /// A rig in get-in, the runs that it should have, and the points to ask it for.
 #[derive(Drop)]
 pub struct Drawn {
-    pub rig: GetIn,
+    pub rig: Rig<GetIn>,
     pub runs: Vec<Run>,
     pub points: Vec<u8>,
 }
 
-fn draw_time(dice: &mut Dice, times: Times) -> u16 {
+impl Drawn {
+    /// Lays a run on the rig, and keeps it among the runs that the rig should have.
+    fn lay(&mut self, run: Run) -> Result<(), Fault> {
+        let number = self
+            .rig
+            .lay(run.tail, run.head, run.winch, run.time, run.strain)?;
+        if usize::from(number) != self.runs.len() {
+            return Err(Fault::RunNumber);
+        }
+        self.runs.push(run)?;
+        Ok(())
+    }
+
+    /// Strikes a run of the rig, unless it is struck already or was not laid.
+    fn strike(&mut self, number: usize) -> Result<(), Fault> {
+        match self.runs.get_mut(number) {
+            Some(run) if number < MOST_RUNS && !run.struck => {
+                self.rig.strike(number as u16)?;
+                run.struck = true;
+                Ok(())
+            }
+            _ => Ok(()),
+        }
+    }
+
+    /// Alters the time of a run of the rig, unless it is struck or was not laid.
+    fn retime(&mut self, number: usize, time: u16) -> Result<(), Fault> {
+        match self.runs.get_mut(number) {
+            Some(run) if number < MOST_RUNS && !run.struck => {
+                self.rig.retime(number as u16, time)?;
+                run.time = time;
+                Ok(())
+            }
+            _ => Ok(()),
+        }
+    }
+}
+
+/// One of these times. Where there is but one, no dice are thrown.
+fn draw_time(dice: &mut Dice, times: &[u16]) -> u16 {
     match times {
-        Times::Still => 0,
-        Times::Equal => 1,
-        Times::Small => dice.pick(&[0, 0, 1, 1, 2, 3, 4, 7], 0),
-        Times::Wide => dice.pick(&[0, 1, 9, 300, 4_000, 65_534, 65_535], 0),
+        [time] => *time,
+        _ => dice.pick(times, 0),
     }
 }
 
 /// A run between two different points.
-fn draw_run(dice: &mut Dice, points: &[u8], times: Times) -> Run {
+fn draw_run(dice: &mut Dice, points: &[u8], times: &[u16]) -> Run {
     let tail = dice.pick(points, 0);
     let mut head = dice.pick(points, 0);
     if head == tail {
@@ -69,83 +106,40 @@ fn draw_run(dice: &mut Dice, points: &[u8], times: Times) -> Run {
     }
 }
 
-/// Lays a run on the rig, and keeps it among the runs that the rig should have.
-pub fn lay_run(rig: &mut GetIn, runs: &mut Vec<Run>, run: Run) -> Result<(), Fault> {
-    let number = rig.lay(run.tail, run.head, run.winch, run.time, run.strain)?;
-    if usize::from(number) != runs.len() {
-        return Err(Fault::RunNumber);
-    }
-    runs.push(run)?;
-    Ok(())
-}
-
-/// Strikes a run of the rig, unless it is struck already or the number is too high.
-fn strike_run(rig: &mut GetIn, runs: &mut Vec<Run>, number: usize) -> Result<(), Fault> {
-    if number >= runs.len() || number > 255 || runs[number].struck {
-        return Ok(());
-    }
-    rig.strike(number as u16)?;
-    runs[number].struck = true;
-    Ok(())
-}
-
-/// Alters the time of a run of the rig, unless it is struck or the number is too high.
-fn retime_run(rig: &mut GetIn, runs: &mut Vec<Run>, number: usize, time: u16) -> Result<(), Fault> {
-    if number >= runs.len() || number > 255 || runs[number].struck {
-        return Ok(());
-    }
-    rig.retime(number as u16, time)?;
-    runs[number].time = time;
-    Ok(())
-}
-
 /// Two to six points in use.
-fn draw_points(heap: Global, dice: &mut Dice) -> Result<Vec<u8>, Fault> {
+fn draw_points(heap: Global, dice: &mut Dice) -> Result<Vec<u8>, AllocError> {
     let count = dice.pick(&[2, 3, 4, 5, 6], 2);
-    let mut points = Vec::new(heap);
-    for point in POINTS_IN_USE.iter().take(count) {
-        points.push(*point)?;
-    }
-    Ok(points)
+    POINTS_IN_USE.iter().copied().take(count).collect(heap)
 }
 
 /// A rig of up to nine runs over two to six points, some of the runs struck and some retimed.
 pub fn draw_rig(heap: Global, dice: &mut Dice) -> Result<Drawn, Fault> {
-    let times = dice.pick(
-        &[
-            Times::Still,
-            Times::Equal,
-            Times::Small,
-            Times::Small,
-            Times::Wide,
-        ],
-        Times::Small,
-    );
-    let mut points = draw_points(heap, dice)?;
-    let mut rig = GetIn::new();
-    let mut runs = Vec::new(heap);
+    let times = dice.pick(&TIMES, SMALL);
+    let mut drawn = Drawn {
+        rig: Rig::new(),
+        runs: Vec::new(heap),
+        points: draw_points(heap, dice)?,
+    };
     for _ in 0..dice.below(10) {
-        let run = draw_run(dice, &points, times);
-        lay_run(&mut rig, &mut runs, run)?;
+        let run = draw_run(dice, &drawn.points, times);
+        drawn.lay(run)?;
     }
     for _ in 0..dice.pick(&[0, 0, 1, 2], 0) {
-        let number = dice.below(runs.len());
-        strike_run(&mut rig, &mut runs, number)?;
+        let number = dice.below(drawn.runs.len());
+        drawn.strike(number)?;
     }
     for _ in 0..dice.pick(&[0, 0, 1, 3], 0) {
-        let number = dice.below(runs.len());
+        let number = dice.below(drawn.runs.len());
         let time = draw_time(dice, times);
-        retime_run(&mut rig, &mut runs, number, time)?;
+        drawn.retime(number, time)?;
     }
-    points.push(POINT_APART)?;
-    Ok(Drawn { rig, runs, points })
+    drawn.points.push(POINT_APART)?;
+    Ok(drawn)
 }
 
 /// A flat rule.
 pub fn draw_flat(dice: &mut Dice) -> Flat {
-    let mut rule = Flat::new();
-    rule.set(dice.pick(&SETTINGS, 0));
-    rule
+    flat_at(dice.pick(&SETTINGS, 0))
 }
 
 /// A rule by point, with a setting for each point in use.

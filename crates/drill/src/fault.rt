@@ -1,128 +1,72 @@
 use routing::refusal::SearchRefusal;
-use std::alloc::{AllocError, AllocFailed};
-use std::fmt;
+use std::alloc::AllocError;
+use thiserror::Error;
 use track::refusal::MapRefusal;
 use walks::refusal::RuleRefusal;
 
 /// What did not agree.
-#[derive(Clone, Copy, Drop)]
+#[derive(Clone, Copy, Debug, Drop, Error)]
 pub enum Fault {
-    NoMemory,
-    CallRefused(MapRefusal),
-    SettingRefused(RuleRefusal),
-    SearchRefused(SearchRefusal),
+    #[error("no memory")]
+    NoMemory(#[from(alloc)] AllocError),
+    #[error("a call on the map was refused ({number})", number = u8::from(*.0))]
+    CallRefused(#[from] MapRefusal),
+    #[error("a setting was refused ({number})", number = u8::from(*.0))]
+    SettingRefused(#[from] RuleRefusal),
+    #[error("a search was refused ({number})", number = u8::from(*.0))]
+    SearchRefused(#[from] SearchRefusal),
     /// A run was laid under another number than the next.
+    #[error("a run got another number")]
     RunNumber,
     /// The rig has other runs than were laid.
+    #[error("the rig has other runs")]
     RigRuns,
     /// The repeated relaxation did not come to rest.
+    #[error("the relaxation does not come to rest")]
     NoRest,
     /// There are more walks that repeat no run than can be.
+    #[error("too many walks")]
     TooManyWalks,
     /// The enumeration found another least cost than the relaxation.
+    #[error("the enumeration finds another least cost")]
     SecondOpinion,
     /// A place of the table is absent, or there, or at another cost.
+    #[error("a place of the table")]
     TablePlace,
     /// A place of the board is absent, or there, or at another cost.
+    #[error("a place of the board")]
     BoardPlace,
     /// The last run of a place on the board.
+    #[error("a last run on the board")]
     LastRun,
     /// The runs before, followed back, give no list that begins.
+    #[error("the runs before lead nowhere")]
     NoBeginning,
     /// A list of runs is no legal walk from the home to where it should end.
+    #[error("no legal walk")]
     NoWalk,
     /// A walk repeats a run.
+    #[error("a run twice")]
     Repeats,
     /// A walk has another cost than was told.
+    #[error("a walk of another cost")]
     WalkCost,
     /// A cost that was told is not the least.
+    #[error("not the least cost")]
     NotLeast,
     /// There is a way where none should be, or none where one should be.
+    #[error("a way or no way")]
     Way,
     /// A count of runs that the list has no room for.
+    #[error("more runs than the list has")]
     TooLong,
     /// Another route than the one worked out by hand.
+    #[error("another route")]
     OtherWalk,
     /// Another refusal than the first that applies, or none.
+    #[error("another answer")]
     OtherAnswer,
     /// A place was written that should be as it was.
+    #[error("a buffer was touched")]
     Touched,
-}
-
-impl From<AllocError> for Fault {
-    fn from(_e: AllocError) -> Fault {
-        Fault::NoMemory
-    }
-}
-
-impl<T: Drop> From<AllocFailed<T>> for Fault {
-    fn from(_e: AllocFailed<T>) -> Fault {
-        Fault::NoMemory
-    }
-}
-
-impl From<MapRefusal> for Fault {
-    fn from(refusal: MapRefusal) -> Fault {
-        Fault::CallRefused(refusal)
-    }
-}
-
-impl From<RuleRefusal> for Fault {
-    fn from(refusal: RuleRefusal) -> Fault {
-        Fault::SettingRefused(refusal)
-    }
-}
-
-impl From<SearchRefusal> for Fault {
-    fn from(refusal: SearchRefusal) -> Fault {
-        Fault::SearchRefused(refusal)
-    }
-}
-
-/// The number of the refusal that a fault is, if it is one.
-fn refusal_of(fault: Fault) -> Option<u8> {
-    match fault {
-        Fault::CallRefused(refusal) => Some(refusal.number()),
-        Fault::SettingRefused(refusal) => Some(refusal.number()),
-        Fault::SearchRefused(refusal) => Some(refusal.number()),
-        _ => None,
-    }
-}
-
-/// What a fault is, in words.
-fn words_of(fault: Fault) -> &'static str {
-    match fault {
-        Fault::NoMemory => "no memory",
-        Fault::CallRefused(_) => "a call on the map was refused",
-        Fault::SettingRefused(_) => "a setting was refused",
-        Fault::SearchRefused(_) => "a search was refused",
-        Fault::RunNumber => "a run got another number",
-        Fault::RigRuns => "the rig has other runs",
-        Fault::NoRest => "the relaxation does not come to rest",
-        Fault::TooManyWalks => "too many walks",
-        Fault::SecondOpinion => "the enumeration finds another least cost",
-        Fault::TablePlace => "a place of the table",
-        Fault::BoardPlace => "a place of the board",
-        Fault::LastRun => "a last run on the board",
-        Fault::NoBeginning => "the runs before lead nowhere",
-        Fault::NoWalk => "no legal walk",
-        Fault::Repeats => "a run twice",
-        Fault::WalkCost => "a walk of another cost",
-        Fault::NotLeast => "not the least cost",
-        Fault::Way => "a way or no way",
-        Fault::TooLong => "more runs than the list has",
-        Fault::OtherWalk => "another route",
-        Fault::OtherAnswer => "another answer",
-        Fault::Touched => "a buffer was touched",
-    }
-}
-
-impl fmt::Display for Fault {
-    fn fmt<W: fmt::Write>(&self, f: &mut fmt::Formatter<W>) -> fmt::Result {
-        let words = words_of(*self);
-        match refusal_of(*self) {
-            Some(number) => write!(f, "{words} ({number})"),
-            None => write!(f, "{words}"),
-        }
-    }
 }

@@ -20,10 +20,11 @@ use dice::Dice;
 use draw::{Drawn, draw_by_pair, draw_by_point, draw_flat, draw_rig};
 use fault::Fault;
 use refusals::try_refusals;
-use score::{KindScores, Log, Score};
+use rehearsal::tally::Tally;
+use score::{KindScores, Log};
 use std::alloc::Global;
 use std::io;
-use track::rig::Show;
+use track::rig::{Rig, Show};
 use track::run::Run;
 use trial::{Trial, try_homes};
 use walks::hand_overs::HandOvers;
@@ -38,18 +39,33 @@ const RIGS: usize = 800;
 /// What was tried, and what came of it.
 #[derive(Drop)]
 struct Report {
-    rigs: Score,
+    rigs: Tally,
     time: KindScores,
     strain: KindScores,
     hand_overs: KindScores,
-    worked: Score,
-    refused_surveys: Score,
-    refused_routes: Score,
+    worked: Tally,
+    refused_surveys: Tally,
+    refused_routes: Tally,
     log: Log,
 }
 
+impl Report {
+    fn new(heap: Global) -> Report {
+        Report {
+            rigs: Tally::new(),
+            time: KindScores::new("time"),
+            strain: KindScores::new("strain"),
+            hand_overs: KindScores::new("hand-overs"),
+            worked: Tally::new(),
+            refused_surveys: Tally::new(),
+            refused_routes: Tally::new(),
+            log: Log::new(heap),
+        }
+    }
+}
+
 /// Whether a rig has the runs that it should have.
-fn check_runs(rig: &Show, runs: &[Run]) -> Result<(), Fault> {
+fn check_runs(rig: &Rig<Show>, runs: &[Run]) -> Result<(), Fault> {
     if rig.runs() != runs {
         return Err(Fault::RigRuns);
     }
@@ -57,38 +73,20 @@ fn check_runs(rig: &Show, runs: &[Run]) -> Result<(), Fault> {
 }
 
 /// Asks a rig under one rule, by each kind of cost.
-fn try_kinds<R: HandoverRule>(
-    heap: Global,
-    trial: &Trial,
-    rule: &R,
-    report: &mut Report,
-) -> Result<(), Fault> {
-    try_homes(heap, trial, &Time, rule, &mut report.time, &mut report.log)?;
-    try_homes(
-        heap,
-        trial,
-        &Strain,
-        rule,
-        &mut report.strain,
-        &mut report.log,
-    )?;
-    try_homes(
-        heap,
-        trial,
-        &HandOvers,
-        rule,
-        &mut report.hand_overs,
-        &mut report.log,
-    )
+fn try_kinds<R: HandoverRule>(trial: &Trial, rule: &R, report: &mut Report) -> Result<(), Fault> {
+    let log = &mut report.log;
+    try_homes(trial, &Time, rule, &mut report.time, log)?;
+    try_homes(trial, &Strain, rule, &mut report.strain, log)?;
+    try_homes(trial, &HandOvers, rule, &mut report.hand_overs, log)
 }
 
 /// Draws a rig, and asks it under each rule.
-fn try_rig(heap: Global, dice: &mut Dice, number: usize, report: &mut Report) -> Result<(), Fault> {
-    let Drawn { rig, runs, points } = draw_rig(heap, dice)?;
+fn try_rig(dice: &mut Dice, number: usize, report: &mut Report) -> Result<(), Fault> {
+    let Drawn { rig, runs, points } = draw_rig(report.log.heap, dice)?;
     let rig = rig.open();
-    if let Some(fault) = report.rigs.count(check_runs(&rig, &runs)) {
-        report.log.add(format!(in heap; "rig {number}: {fault}")?)?;
-    }
+    let outcome = check_runs(&rig, &runs);
+    let words = format_args!("rig {number}");
+    report.log.judge(&mut report.rigs, outcome, words)?;
     let flat = draw_flat(dice);
     let by_point = draw_by_point(dice)?;
     let by_pair = draw_by_pair(dice)?;
@@ -99,88 +97,60 @@ fn try_rig(heap: Global, dice: &mut Dice, number: usize, report: &mut Report) ->
         runs: &runs,
         points: &points,
     };
-    try_kinds(heap, &trial, &flat, report)?;
+    try_kinds(&trial, &flat, report)?;
     trial.rule = "rule by point";
-    try_kinds(heap, &trial, &by_point, report)?;
+    try_kinds(&trial, &by_point, report)?;
     trial.rule = "rule by pair";
-    try_kinds(heap, &trial, &by_pair, report)
+    try_kinds(&trial, &by_pair, report)
 }
 
 /// Tries everything.
-fn try_all(heap: Global, report: &mut Report) -> Result<(), Fault> {
+fn try_all(report: &mut Report) -> Result<(), Fault> {
     let mut dice = Dice::new(2_463_534_242);
     for number in 0..RIGS {
-        try_rig(heap, &mut dice, number, report)?;
+        try_rig(&mut dice, number, report)?;
     }
-    try_worked_cases(heap, &mut report.worked, &mut report.log)?;
-    try_refusals(
-        heap,
-        &mut report.refused_surveys,
-        &mut report.refused_routes,
-        &mut report.log,
-    )
+    let log = &mut report.log;
+    try_worked_cases(&mut report.worked, log)?;
+    try_refusals(&mut report.refused_surveys, &mut report.refused_routes, log)
 }
 
-fn print_score(rt: &HostRuntime, what: &str, score: Score) -> io::Result<()> {
-    let tried = score.tried;
-    let agreed = score.agreed;
+fn print_score(rt: &HostRuntime, what: &str, score: Tally) -> io::Result<()> {
+    let Tally { tried, agreed } = score;
     println!(rt; "{what:<28}{tried:>7} tried{agreed:>7} agreed")
 }
 
 fn print_kind(rt: &HostRuntime, scores: KindScores) -> io::Result<()> {
-    let heap = rt.alloc();
     let kind = scores.kind;
-    print_score(
-        rt,
-        format!(in heap; "surveys by {kind}")?.as_str(),
-        scores.surveys,
-    )?;
-    print_score(
-        rt,
-        format!(in heap; "routes by {kind}")?.as_str(),
-        scores.routes,
-    )?;
-    print_score(
-        rt,
-        format!(in heap; "no way by {kind}")?.as_str(),
-        scores.no_ways,
-    )?;
-    print_score(
-        rt,
-        format!(in heap; "all walks by {kind}")?.as_str(),
-        scores.walks,
-    )
+    for (asked, score) in [
+        ("surveys", scores.surveys),
+        ("routes", scores.routes),
+        ("no way", scores.no_ways),
+        ("all walks", scores.walks),
+    ] {
+        let what = format!(in rt.alloc(); "{asked} by {kind}")?;
+        print_score(rt, &what, score)?;
+    }
+    Ok(())
 }
 
 fn print_report(rt: &HostRuntime, report: &Report) -> io::Result<()> {
     print_score(rt, "rigs laid", report.rigs)?;
-    print_kind(rt, report.time)?;
-    print_kind(rt, report.strain)?;
-    print_kind(rt, report.hand_overs)?;
+    for scores in [report.time, report.strain, report.hand_overs] {
+        print_kind(rt, scores)?;
+    }
     print_score(rt, "worked cases", report.worked)?;
     print_score(rt, "limits of survey", report.refused_surveys)?;
     print_score(rt, "limits of route", report.refused_routes)?;
-    for line in report.log.lines.iter() {
+    for line in &report.log.lines {
         println!(rt; "{line}")?;
     }
     Ok(())
 }
 
 fn run(rt: &HostRuntime) -> anyhow::Result<()> {
-    let heap = rt.alloc();
-    let mut report = Report {
-        rigs: Score::new(),
-        time: KindScores::new("time"),
-        strain: KindScores::new("strain"),
-        hand_overs: KindScores::new("hand-overs"),
-        worked: Score::new(),
-        refused_surveys: Score::new(),
-        refused_routes: Score::new(),
-        log: Log {
-            lines: Vec::new(heap),
-        },
-    };
-    let outcome = try_all(heap, &mut report);
+    let mut report = Report::new(rt.alloc());
+    let outcome = try_all(&mut report);
     print_report(rt, &report)?;
     if let Err(fault) = outcome {
         println!(rt; "broken off: {fault}")?;

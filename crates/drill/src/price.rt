@@ -1,4 +1,4 @@
-// What a list of runs is as a walk, step by step.
+// What a list of runs is as a walk, step by step. It is written apart from the search and from the relaxation, as a second opinion.
 use crate::fault::Fault;
 use crate::question::Question;
 use crate::relaxation::is_same;
@@ -62,12 +62,7 @@ fn walk_along<K: CostKind, R: HandoverRule>(
 
 /// Whether a number stands in the list twice.
 fn repeats(walk: &[u16]) -> bool {
-    for (i, number) in walk.iter().enumerate() {
-        if walk[0..i].contains(number) {
-            return true;
-        }
-    }
-    false
+    walk.iter().enumerate().any(|(i, number)| walk.iter().skip(i + 1).any(|other| other == number))
 }
 
 /// Whether this is a legal walk from the home to `mark` that repeats no run and has this cost.
@@ -80,9 +75,7 @@ pub fn check_walk<K: CostKind, R: HandoverRule>(
     if repeats(walk) {
         return Err(Fault::Repeats);
     }
-    let Some(walked) = walk_along(asked, walk) else {
-        return Err(Fault::NoWalk);
-    };
+    let walked = walk_along(asked, walk).ok_or(Fault::NoWalk)?;
     if walked.end != mark {
         return Err(Fault::NoWalk);
     }
@@ -94,15 +87,9 @@ pub fn check_walk<K: CostKind, R: HandoverRule>(
 
 /// The run before a run, by the table.
 fn run_before<C: Copy>(table: &[Place<C>], run: u16) -> Result<Option<u16>, Fault> {
-    let Some(place) = table.get(usize::from(run)) else {
-        return Err(Fault::NoBeginning);
-    };
-    match *place {
-        Place::Absent => Err(Fault::NoBeginning),
-        Place::Reached {
-            cost: _,
-            run: before,
-        } => Ok(before),
+    match table.get(usize::from(run)) {
+        Some(Some(reached)) => Ok(reached.run),
+        _ => Err(Fault::NoBeginning),
     }
 }
 

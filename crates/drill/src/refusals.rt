@@ -1,77 +1,69 @@
 // The refusals of survey and route on the map W, on both sides of each limit and in every mix.
 use crate::buffers::{check_numbers, check_places, marked_numbers, marked_places};
 use crate::fault::Fault;
-use crate::score::{Log, Score};
-use crate::worked::{flat_at, map_w};
+use crate::score::Log;
+use rehearsal::tally::Tally;
+use rehearsal::worked::{flat_at, map_w};
 use routing::refusal::SearchRefusal;
 use routing::route::route;
 use routing::survey::survey;
 use std::alloc::Global;
-use track::rig::Show;
+use track::rig::{Rig, Show};
 use walks::time::Time;
 
-/// The number of a refusal, or 0 of an answer.
-fn number_of<T: Drop>(answer: Result<T, SearchRefusal>) -> u8 {
-    match answer {
-        Ok(_) => 0,
-        Err(refusal) => refusal.number(),
-    }
-}
-
-/// The first refusal of a survey that applies on the map W, or 0.
-fn survey_number(home: u8, places: usize, room: usize) -> u8 {
+/// The first refusal of a survey that applies on the map W, if one does.
+fn survey_refusal(home: u8, places: usize, room: usize) -> Option<SearchRefusal> {
     if home > 127 {
-        1
+        Some(SearchRefusal::NoPoint)
     } else if places < 4 {
-        8
+        Some(SearchRefusal::TableShort)
     } else if room < 128 {
-        10
+        Some(SearchRefusal::BoardShort)
     } else {
-        0
+        None
     }
 }
 
-/// The first refusal of a route that applies on the map W, or 0: from 0 each point to 3 is reached, from 127 only itself.
-fn route_number(home: u8, mark: u8, places: usize, room: usize) -> u8 {
+/// The first refusal of a route that applies on the map W, if one does: from 0 each point to 3 is reached, from 127 only itself.
+fn route_refusal(home: u8, mark: u8, places: usize, room: usize) -> Option<SearchRefusal> {
     if home > 127 || mark > 127 {
-        1
+        Some(SearchRefusal::NoPoint)
     } else if places < 4 {
-        8
+        Some(SearchRefusal::TableShort)
     } else if room < 4 {
-        9
+        Some(SearchRefusal::ListShort)
     } else if home != mark && (home != 0 || mark > 3) {
-        11
+        Some(SearchRefusal::NoWay)
     } else {
-        0
+        None
     }
 }
 
 /// Asks for a survey with a table and a board of these sizes.
 fn check_refused_survey(
     heap: Global,
-    rig: &Show,
+    rig: &Rig<Show>,
     home: u8,
     places: usize,
     room: usize,
 ) -> Result<(), Fault> {
     let mut table = marked_places(heap, &Time, places)?;
     let mut board = marked_places(heap, &Time, room)?;
-    let answer = survey(rig, &Time, &flat_at(25), home, &mut table, &mut board);
-    let number = number_of(answer);
-    if number != survey_number(home, places, room) {
+    let refusal = survey(rig, &Time, &flat_at(25), home, &mut table, &mut board).err();
+    if refusal != survey_refusal(home, places, room) {
         return Err(Fault::OtherAnswer);
     }
-    if number == 0 {
-        return Ok(());
+    if refusal.is_some() {
+        check_places(&Time, &table, 0)?;
+        check_places(&Time, &board, 0)?;
     }
-    check_places(&Time, &table, 0)?;
-    check_places(&Time, &board, 0)
+    Ok(())
 }
 
 /// Asks for a route with a table and a list of these sizes.
 fn check_refused_route(
     heap: Global,
-    rig: &Show,
+    rig: &Rig<Show>,
     home: u8,
     mark: u8,
     places: usize,
@@ -79,36 +71,32 @@ fn check_refused_route(
 ) -> Result<(), Fault> {
     let mut table = marked_places(heap, &Time, places)?;
     let mut list = marked_numbers(heap, room)?;
-    let answer = route(rig, &Time, &flat_at(25), home, mark, &mut table, &mut list);
-    let number = number_of(answer);
-    if number != route_number(home, mark, places, room) {
+    let refusal = route(rig, &Time, &flat_at(25), home, mark, &mut table, &mut list).err();
+    if refusal != route_refusal(home, mark, places, room) {
         return Err(Fault::OtherAnswer);
     }
-    if number == 0 {
-        return Ok(());
+    match refusal {
+        None => Ok(()),
+        Some(SearchRefusal::NoWay) => check_numbers(&list, 0),
+        Some(_) => {
+            check_places(&Time, &table, 0)?;
+            check_numbers(&list, 0)
+        }
     }
-    if number != 11 {
-        check_places(&Time, &table, 0)?;
-    }
-    check_numbers(&list, 0)
 }
 
 /// Tries the surveys from one home.
 fn try_surveys_from(
-    heap: Global,
-    rig: &Show,
+    rig: &Rig<Show>,
     home: u8,
-    score: &mut Score,
+    score: &mut Tally,
     log: &mut Log,
 ) -> Result<(), Fault> {
     for places in [0, 3, 4, 5] {
         for room in [0, 127, 128, 129] {
-            let outcome = check_refused_survey(heap, rig, home, places, room);
-            if let Some(fault) = score.count(outcome) {
-                log.add(format!(in heap;
-                    "survey from {home}, table {places}, board {room}: {fault}"
-                )?)?;
-            }
+            let outcome = check_refused_survey(log.heap, rig, home, places, room);
+            let words = format_args!("survey from {home}, table {places}, board {room}");
+            log.judge(score, outcome, words)?;
         }
     }
     Ok(())
@@ -116,38 +104,29 @@ fn try_surveys_from(
 
 /// Tries the routes from one home to one mark.
 fn try_routes_between(
-    heap: Global,
-    rig: &Show,
+    rig: &Rig<Show>,
     home: u8,
     mark: u8,
-    score: &mut Score,
+    score: &mut Tally,
     log: &mut Log,
 ) -> Result<(), Fault> {
     for places in [0, 3, 4, 5] {
         for room in [0, 3, 4, 5] {
-            let outcome = check_refused_route(heap, rig, home, mark, places, room);
-            if let Some(fault) = score.count(outcome) {
-                log.add(format!(in heap;
-                    "route from {home} to {mark}, table {places}, list {room}: {fault}"
-                )?)?;
-            }
+            let outcome = check_refused_route(log.heap, rig, home, mark, places, room);
+            let words = format_args!("route from {home} to {mark}, table {places}, list {room}");
+            log.judge(score, outcome, words)?;
         }
     }
     Ok(())
 }
 
 /// Tries surveys and routes on both sides of each limit.
-pub fn try_refusals(
-    heap: Global,
-    surveys: &mut Score,
-    routes: &mut Score,
-    log: &mut Log,
-) -> Result<(), Fault> {
-    let rig = map_w()?.open();
+pub fn try_refusals(surveys: &mut Tally, routes: &mut Tally, log: &mut Log) -> Result<(), Fault> {
+    let rig = map_w().open();
     for home in [0, 127, 128, 255] {
-        try_surveys_from(heap, &rig, home, surveys, log)?;
+        try_surveys_from(&rig, home, surveys, log)?;
         for mark in [0, 3, 127, 128, 255] {
-            try_routes_between(heap, &rig, home, mark, routes, log)?;
+            try_routes_between(&rig, home, mark, routes, log)?;
         }
     }
     Ok(())

@@ -1,4 +1,5 @@
-// The least costs worked out once more, by relaxing every pair of runs until nothing changes. It shares no code with the search.
+// The least costs worked out once more, by relaxing every pair of runs until nothing changes.
+// It shares no code with the search: what looks like `walks::walk` is written anew, so that an error there shows here.
 ghost use Rattle.std.specs.Prelude.{◌≡◌, length, IfOk, vec_len};
 
 use crate::fault::Fault;
@@ -9,17 +10,16 @@ use walks::kind::CostKind;
 use walks::rule::HandoverRule;
 
 /// What the walk of this one run costs, if it is a walk from the home.
-pub fn first_cost<K: CostKind>(kind: &K, home: u8, run: Run) -> Option<K::Cost> {
-    if run.struck || run.tail != home {
+fn first_cost<K: CostKind, R: HandoverRule>(asked: &Question<K, R>, run: Run) -> Option<K::Cost> {
+    if run.struck || run.tail != asked.home {
         return None;
     }
-    Some(kind.along(kind.start(), run.time, run.strain))
+    Some(asked.kind.along(asked.kind.start(), run.time, run.strain))
 }
 
 /// What a walk of cost `cost` that ends with `last` costs once it goes on along `run`, if it may.
-pub fn next_cost<K: CostKind, R: HandoverRule>(
-    kind: &K,
-    rule: &R,
+fn next_cost<K: CostKind, R: HandoverRule>(
+    asked: &Question<K, R>,
     last: Run,
     cost: K::Cost,
     run: Run,
@@ -27,13 +27,9 @@ pub fn next_cost<K: CostKind, R: HandoverRule>(
     if run.struck || run.tail != last.head {
         return None;
     }
-    match rule.ask(run.tail, last.winch, run.winch) {
-        None => None,
-        Some(penalty) => {
-            let at_joint = kind.over(cost, penalty, run.winch != last.winch);
-            Some(kind.along(at_joint, run.time, run.strain))
-        }
-    }
+    let penalty = asked.rule.ask(run.tail, last.winch, run.winch)?;
+    let at_joint = asked.kind.over(cost, penalty, run.winch != last.winch);
+    Some(asked.kind.along(at_joint, run.time, run.strain))
 }
 
 /// Lowers a label to what is offered, if that is lower, and says whether it was.
@@ -41,49 +37,39 @@ pub fn lower<K: CostKind>(kind: &K, label: &mut Option<K::Cost>, offer: Option<K
     let Some(cost) = offer else {
         return false;
     };
-    if let Some(least) = *label {
-        if kind.at_most(least, cost) {
-            return false;
-        }
+    if label.is_some_and(|least| kind.at_most(least, cost)) {
+        return false;
     }
     *label = Some(cost);
     true
 }
 
 /// The labels of the runs before any is relaxed: what walks of one run cost.
-fn begin_labels<K: CostKind>(
+fn begin_labels<K: CostKind, R: HandoverRule>(
     heap: Global,
-    kind: &K,
-    runs: &[Run],
-    home: u8,
+    asked: &Question<K, R>,
 ) -> Result<Vec<Option<K::Cost>>, AllocError>
-    ensures { IfOk result (λ v. vec_len v ≡ length runs.now) }
+    ensures { IfOk result (λ v. vec_len v ≡ length asked.now.runs.now) }
 {
-    let mut labels = Vec::new(heap);
-    for run in runs {
-        labels.push(first_cost(kind, home, *run))?;
-    }
-    Ok(labels)
+    asked
+        .runs
+        .iter()
+        .map(|run| first_cost(asked, *run))
+        .collect(heap)
 }
 
 /// Relaxes every run by every labelled run, and says whether a label changed.
 fn relax_all<K: CostKind, R: HandoverRule>(
-    kind: &K,
-    rule: &R,
-    runs: &[Run],
+    asked: &Question<K, R>,
     labels: &mut [Option<K::Cost>],
 ) -> bool
-    requires { length labels.old ≡ length runs.now }
+    requires { length labels.old ≡ length asked.now.runs.now }
 {
     let mut changed = false;
-    for i in 0..runs.len() {
-        for j in 0..runs.len() {
-            let label = labels[i];
-            if let Some(cost) = label {
-                let offer = next_cost(kind, rule, runs[i], cost, runs[j]);
-                if lower(kind, &mut labels[j], offer) {
-                    changed = true;
-                }
+    for (i, last) in asked.runs.iter().enumerate() {
+        if let Some(cost) = labels[i] {
+            for (run, label) in asked.runs.iter().zip(labels.iter_mut()) {
+                changed |= lower(asked.kind, label, next_cost(asked, *last, cost, *run));
             }
         }
     }
@@ -97,9 +83,9 @@ pub fn least_costs<K: CostKind, R: HandoverRule>(
     heap: Global,
     asked: &Question<K, R>,
 ) -> Result<Vec<Option<K::Cost>>, Fault> {
-    let mut labels = begin_labels(heap, asked.kind, asked.runs, asked.home)?;
+    let mut labels = begin_labels(heap, asked)?;
     for _ in 0..=asked.runs.len() {
-        if !relax_all(asked.kind, asked.rule, asked.runs, &mut labels) {
+        if !relax_all(asked, &mut labels) {
             return Ok(labels);
         }
     }
@@ -124,13 +110,11 @@ pub fn least_to<K: CostKind, R: HandoverRule>(
     least
 }
 
-/// Whether two answers are both absent, or at the same cost.
+/// Whether two answers are both absent, or at the same cost. A kind's order decides that: its costs need have no `==`.
 pub fn is_same<K: CostKind>(kind: &K, a: Option<K::Cost>, b: Option<K::Cost>) -> bool {
-    let Some(x) = a else {
-        return b.is_none();
-    };
-    match b {
-        Some(y) => kind.at_most(x, y) && kind.at_most(y, x),
-        None => false,
+    match (a, b) {
+        (Some(x), Some(y)) => kind.at_most(x, y) && kind.at_most(y, x),
+        (None, None) => true,
+        _ => false,
     }
 }

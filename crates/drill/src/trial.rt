@@ -5,8 +5,7 @@ use crate::fault::Fault;
 use crate::question::Question;
 use crate::relaxation::{least_costs, least_to};
 use crate::score::{KindScores, Log};
-use std::alloc::Global;
-use track::rig::Show;
+use track::rig::{Rig, Show};
 use track::run::Run;
 use walks::kind::CostKind;
 use walks::rule::HandoverRule;
@@ -16,102 +15,46 @@ use walks::rule::HandoverRule;
 pub struct Trial<'a> {
     pub number: usize,
     pub rule: &'static str,
-    pub rig: &'a Show,
+    pub rig: &'a Rig<Show>,
     pub runs: &'a [Run],
     pub points: &'a [u8],
 }
 
-/// Asks for a survey.
-fn try_survey<K: CostKind, R: HandoverRule>(
-    heap: Global,
-    trial: &Trial,
-    asked: &Question<K, R>,
-    labels: &[Option<K::Cost>],
-    scores: &mut KindScores,
-    log: &mut Log,
-) -> Result<(), Fault> {
-    let outcome = check_survey(heap, trial.rig, asked, labels);
-    if let Some(fault) = scores.surveys.count(outcome) {
-        let number = trial.number;
-        let rule = trial.rule;
-        let kind = scores.kind;
-        let home = asked.home;
-        log.add(format!(in heap; "rig {number}, {rule}, {kind}, survey from {home}: {fault}")?)?;
-    }
-    Ok(())
-}
-
-/// Asks for a route.
-fn try_route<K: CostKind, R: HandoverRule>(
-    heap: Global,
-    trial: &Trial,
-    asked: &Question<K, R>,
-    labels: &[Option<K::Cost>],
-    mark: u8,
-    scores: &mut KindScores,
-    log: &mut Log,
-) -> Result<(), Fault> {
-    let outcome = check_route(heap, trial.rig, asked, labels, mark);
-    let counted = if least_to(asked, labels, mark).is_some() {
-        scores.routes.count(outcome)
-    } else {
-        scores.no_ways.count(outcome)
-    };
-    if let Some(fault) = counted {
-        let number = trial.number;
-        let rule = trial.rule;
-        let kind = scores.kind;
-        let home = asked.home;
-        log.add(format!(in heap;
-            "rig {number}, {rule}, {kind}, route from {home} to {mark}: {fault}"
-        )?)?;
-    }
-    Ok(())
-}
-
-/// Tries every walk of a rig of few runs.
-fn try_walks<K: CostKind, R: HandoverRule>(
-    heap: Global,
-    trial: &Trial,
-    asked: &Question<K, R>,
-    labels: &[Option<K::Cost>],
-    scores: &mut KindScores,
-    log: &mut Log,
-) -> Result<(), Fault> {
-    if trial.runs.len() > FEW_RUNS {
-        return Ok(());
-    }
-    let outcome = check_costs(heap, asked, labels);
-    if let Some(fault) = scores.walks.count(outcome) {
-        let number = trial.number;
-        let rule = trial.rule;
-        let kind = scores.kind;
-        let home = asked.home;
-        log.add(format!(in heap; "rig {number}, {rule}, {kind}, walks from {home}: {fault}")?)?;
-    }
-    Ok(())
-}
-
-/// Asks for the survey from a home, and for the route to each mark.
+/// Tries every walk of a rig of few runs, and asks for the survey from a home and for the route to each mark.
 fn try_home<K: CostKind, R: HandoverRule>(
-    heap: Global,
     trial: &Trial,
     asked: &Question<K, R>,
     scores: &mut KindScores,
     log: &mut Log,
 ) -> Result<(), Fault> {
+    let heap = log.heap;
+    let number = trial.number;
+    let rule = trial.rule;
+    let kind = scores.kind;
+    let home = asked.home;
     let labels = least_costs(heap, asked)?;
-    try_walks(heap, trial, asked, &labels, scores, log)?;
-    try_survey(heap, trial, asked, &labels, scores, log)?;
+    if trial.runs.len() <= FEW_RUNS {
+        let outcome = check_costs(heap, asked, &labels);
+        let words = format_args!("rig {number}, {rule}, {kind}, walks from {home}");
+        log.judge(&mut scores.walks, outcome, words)?;
+    }
+    let outcome = check_survey(heap, trial.rig, asked, &labels);
+    let words = format_args!("rig {number}, {rule}, {kind}, survey from {home}");
+    log.judge(&mut scores.surveys, outcome, words)?;
     for mark in trial.points {
-        try_route(heap, trial, asked, &labels, *mark, scores, log)?;
+        let outcome = check_route(heap, trial.rig, asked, &labels, *mark);
+        let score = match least_to(asked, &labels, *mark) {
+            Some(_) => &mut scores.routes,
+            None => &mut scores.no_ways,
+        };
+        let words = format_args!("rig {number}, {rule}, {kind}, route from {home} to {mark}");
+        log.judge(score, outcome, words)?;
     }
     Ok(())
 }
 
 /// Asks from every home.
 pub fn try_homes<'a, K: CostKind, R: HandoverRule>(
-    heap: Global,
     trial: &Trial,
     kind: &'a K,
     rule: &'a R,
@@ -125,7 +68,7 @@ pub fn try_homes<'a, K: CostKind, R: HandoverRule>(
             runs: trial.runs,
             home: *home,
         };
-        try_home(heap, trial, &asked, scores, log)?;
+        try_home(trial, &asked, scores, log)?;
     }
     Ok(())
 }

@@ -2,13 +2,14 @@
 use crate::buffers::{marked_numbers, marked_places};
 use crate::fault::Fault;
 use crate::relaxation::is_same;
-use crate::score::{Log, Score};
+use crate::score::Log;
+use rehearsal::tally::Tally;
+use rehearsal::worked::{flat_at, map_w};
 use routing::refusal::SearchRefusal;
 use routing::route::route;
 use std::alloc::Global;
-use track::rig::{GetIn, Show};
+use track::rig::{Rig, Show};
 use walks::by_point::ByPoint;
-use walks::flat::Flat;
 use walks::hand_overs::HandOvers;
 use walks::kind::CostKind;
 use walks::rule::HandoverRule;
@@ -23,27 +24,10 @@ struct Found<C> {
     walk: Vec<u16>,
 }
 
-/// The map that most of the cases are on: two ways from 0 to 1, one by way of 2, and one on to 3.
-pub fn map_w() -> Result<GetIn, Fault> {
-    let mut rig = GetIn::new();
-    rig.lay(0, 1, 0, 30, 40)?;
-    rig.lay(0, 2, 1, 20, 70)?;
-    rig.lay(2, 1, 1, 20, 20)?;
-    rig.lay(1, 3, 1, 50, 60)?;
-    Ok(rig)
-}
-
-/// A flat rule at this setting.
-pub fn flat_at(setting: u16) -> Flat {
-    let mut rule = Flat::new();
-    rule.set(setting);
-    rule
-}
-
 /// Asks for a route, with a table and a list of just the places needed.
 fn find<K: CostKind, R: HandoverRule>(
     heap: Global,
-    rig: &Show,
+    rig: &Rig<Show>,
     kind: &K,
     rule: &R,
     home: u8,
@@ -63,7 +47,7 @@ fn find<K: CostKind, R: HandoverRule>(
 /// Whether the route has this cost and is this walk.
 fn expect_route<K: CostKind, R: HandoverRule>(
     heap: Global,
-    rig: &Show,
+    rig: &Rig<Show>,
     kind: &K,
     rule: &R,
     home: u8,
@@ -84,7 +68,7 @@ fn expect_route<K: CostKind, R: HandoverRule>(
 /// Whether there is no way.
 fn expect_no_way<K: CostKind, R: HandoverRule>(
     heap: Global,
-    rig: &Show,
+    rig: &Rig<Show>,
     kind: &K,
     rule: &R,
     home: u8,
@@ -106,38 +90,38 @@ fn on_w<K: CostKind>(
     cost: K::Cost,
     walk: &[u16],
 ) -> Result<(), Fault> {
-    let rig = map_w()?.open();
+    let rig = map_w().open();
     expect_route(heap, &rig, kind, &flat_at(setting), 0, mark, cost, walk)
 }
 
 /// At the setting 10 both ways cost the same, and either may be answered.
 fn tie_on_w(heap: Global) -> Result<(), Fault> {
-    let rig = map_w()?.open();
+    let rig = map_w().open();
     let found = find(heap, &rig, &Time, &flat_at(10), 0, 3)?;
     if found.cost != 90 {
         return Err(Fault::NotLeast);
     }
-    if found.walk.as_slice() != [1, 2, 3].as_slice() && found.walk.as_slice() != [0, 3].as_slice() {
-        return Err(Fault::OtherWalk);
+    match found.walk.as_slice() {
+        [1, 2, 3] | [0, 3] => Ok(()),
+        _ => Err(Fault::OtherWalk),
     }
-    Ok(())
 }
 
 /// No run leaves point 3.
 fn against_w(heap: Global) -> Result<(), Fault> {
-    let rig = map_w()?.open();
+    let rig = map_w().open();
     expect_no_way(heap, &rig, &Time, &flat_at(25), 3, 0)
 }
 
 /// Whoever stays where he is hauls nothing.
 fn stay_on_w(heap: Global) -> Result<(), Fault> {
-    let rig = map_w()?.open();
+    let rig = map_w().open();
     expect_route(heap, &rig, &Time, &flat_at(25), 2, 2, 0, &[])
 }
 
 /// With every hand-over barred and run 1 struck, point 3 is out of reach and point 1 is not.
 fn barred_on_w(heap: Global) -> Result<(), Fault> {
-    let mut laid = map_w()?;
+    let mut laid = map_w();
     laid.strike(1)?;
     let rig = laid.open();
     expect_no_way(heap, &rig, &Time, &flat_at(BARRED), 0, 3)?;
@@ -146,7 +130,7 @@ fn barred_on_w(heap: Global) -> Result<(), Fault> {
 
 /// The straight joint at point 1 is barred, so the way leads round by point 4 and through point 1 twice.
 fn round_by_four(heap: Global) -> Result<(), Fault> {
-    let mut laid = GetIn::new();
+    let mut laid = Rig::new();
     laid.lay(0, 1, 0, 10, 10)?;
     laid.lay(1, 3, 1, 10, 10)?;
     laid.lay(1, 4, 0, 5, 10)?;
@@ -160,37 +144,30 @@ fn round_by_four(heap: Global) -> Result<(), Fault> {
 
 /// A new rig has no runs, and needs no table and no list.
 fn on_new_rig(heap: Global) -> Result<(), Fault> {
-    let rig = GetIn::new().open();
+    let rig = Rig::new().open();
     expect_route(heap, &rig, &Time, &flat_at(25), 0, 0, 0, &[])?;
     expect_no_way(heap, &rig, &Time, &flat_at(25), 0, 1)
 }
 
-/// How many worked cases there are.
-const CASES: u8 = 11;
-
-/// A worked case, by its number from 1 on.
-fn worked_case(heap: Global, case: u8) -> Result<(), Fault> {
-    match case {
-        1 => on_w(heap, &Time, 25, 3, 90, &[1, 2, 3]),
-        2 => on_w(heap, &Time, 25, 1, 30, &[0]),
-        3 => on_w(heap, &Time, 9, 3, 89, &[0, 3]),
-        4 => tie_on_w(heap),
-        5 => on_w(heap, &Strain, 25, 3, 60, &[0, 3]),
-        6 => on_w(heap, &HandOvers, 25, 3, 90, &[1, 2, 3]),
-        7 => against_w(heap),
-        8 => stay_on_w(heap),
-        9 => barred_on_w(heap),
-        10 => round_by_four(heap),
-        _ => on_new_rig(heap),
-    }
-}
-
-/// Tries the worked cases.
-pub fn try_worked_cases(heap: Global, score: &mut Score, log: &mut Log) -> Result<(), Fault> {
-    for case in 1..=CASES {
-        if let Some(fault) = score.count(worked_case(heap, case)) {
-            log.add(format!(in heap; "worked case {case}: {fault}")?)?;
-        }
+/// Tries the worked cases, numbered from 1 on.
+pub fn try_worked_cases(score: &mut Tally, log: &mut Log) -> Result<(), Fault> {
+    let heap = log.heap;
+    let outcomes = [
+        on_w(heap, &Time, 25, 3, 90, &[1, 2, 3]),
+        on_w(heap, &Time, 25, 1, 30, &[0]),
+        on_w(heap, &Time, 9, 3, 89, &[0, 3]),
+        tie_on_w(heap),
+        on_w(heap, &Strain, 25, 3, 60, &[0, 3]),
+        on_w(heap, &HandOvers, 25, 3, 90, &[1, 2, 3]),
+        against_w(heap),
+        stay_on_w(heap),
+        barred_on_w(heap),
+        round_by_four(heap),
+        on_new_rig(heap),
+    ];
+    for (i, outcome) in outcomes.iter().enumerate() {
+        let case = i + 1;
+        log.judge(score, *outcome, format_args!("worked case {case}"))?;
     }
     Ok(())
 }

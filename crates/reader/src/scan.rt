@@ -6,6 +6,7 @@ ghost use Rattle.reader.specs.Said.{went_on};
 pub(crate) fn trim(bytes: &[u8]) -> &[u8]
     ensures { result.now ≡ trimmed bytes.now }
 {
+    // A position and a range would say no more than this pattern does.
     let mut rest = bytes;
     while let [b' ', more @ ..] = rest {
         rest = more;
@@ -64,6 +65,7 @@ pub(crate) fn next_byte(bytes: &[u8]) -> Option<(u8, &[u8])>
     ensures { went_on result ≡ next 255 bytes.now }
 {
     let (n, rest) = next_number(bytes, 255)?;
+    // It is at most 255, and a `try_from` would ask that once more.
     Some((n as u8, rest))
 }
 

@@ -2,6 +2,8 @@
 
 pub mod half;
 pub mod house;
+pub mod tally;
+pub mod worked;
 
 ghost use Rattle.rehearsal.specs.Cases.{EachHolds, cases};
 ghost use Rattle.rehearsal.specs.Remarks.{NotTheBeginning, PassesTwice};

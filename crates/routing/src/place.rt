@@ -4,6 +4,7 @@ pub struct Reached<C> {
     /// The least cost of the walks that the place speaks of.
     pub cost: C,
     /// In a table the run before, or none for a first run; on a board the last run, or none at the home.
+    // By number: a table is memory that a caller lends, so its places cannot refer to one another.
     pub run: Option<u16>,
 }
 

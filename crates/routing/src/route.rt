@@ -60,7 +60,7 @@ fn check_route(
 ) -> Result<(), SearchRefusal>
     ensures { told number result ≡ route_checks (map_of rig.now) home mark places room }
 {
-    if home as usize >= POINTS || mark as usize >= POINTS {
+    if usize::from(home) >= POINTS || usize::from(mark) >= POINTS {
         return Err(SearchRefusal::NoPoint);
     }
     if places < rig.runs().len() {

@@ -103,12 +103,14 @@ fn relax<K: CostKind, R: HandoverRule>(
     ensures { Relaxed (K.CostKind.meaning task.now.kind.now) (R.HandoverRule.table task.now.rule.now) task.now.runs.now taken.now from.run from.cost table.old table.new }
 {
     let Waiting { run, cost } = from;
-    let last = task.runs[run];
+    // Read once, before the innermost loop of a search.
+    let (kind, rule, runs) = (task.kind, task.rule, task.runs);
+    let last = runs[run];
     let before = run as u16;
     for (next, place) in table.iter_mut().enumerate() {
         let waits = !taken[next];
-        let offer = follow(task.kind, task.rule, last, task.runs[next], cost).filter(|_| waits);
-        improve(task.kind, before, offer, place);
+        let offer = follow(kind, rule, last, runs[next], cost).filter(|_| waits);
+        improve(kind, before, offer, place);
     }
 }
 
@@ -120,6 +122,7 @@ pub(crate) fn search<K: CostKind, R: HandoverRule>(task: &Task<K, R>, table: &mu
     requires { length table.old ≡ length task.now.runs.now }
     ensures { TableHolds (asked K.CostKind.meaning R.HandoverRule.table task.now) table.new }
 {
+    // Beside the table: its places are the caller's, and say nothing of what a search has taken.
     let mut taken = [false; MOST_RUNS];
     begin_all(task, table);
     while let Some(next) = next_waiting(task.kind, table, &taken) {

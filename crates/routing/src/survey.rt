@@ -51,7 +51,7 @@ pub fn survey<K: CostKind, R: HandoverRule>(
 fn check_survey(rig: &Rig<Show>, home: u8, places: usize, room: usize) -> Result<(), SearchRefusal>
     ensures { told number result ≡ survey_answer (map_of rig.now) home places room }
 {
-    if home as usize >= POINTS {
+    if usize::from(home) >= POINTS {
         return Err(SearchRefusal::NoPoint);
     }
     if places < rig.runs().len() {

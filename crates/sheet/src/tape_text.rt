@@ -15,6 +15,7 @@ const LONGEST_TAPE: usize = 3584;
 pub fn tape_text(heap: Global, rig: &Rig<GetIn>) -> anyhow::Result<String>
     ensures { IfOk result (λ s. string_bytes s ≡ encode_lower (tape_of (map_of rig.now))) }
 {
+    // A tape is written into a buffer that is lent, and is the front of it.
     let mut tape = [0u8; LONGEST_TAPE];
     let len = write(rig, &mut tape).map_err(|_| anyhow!("the tape is too long"))?;
     Ok(hex::encode(heap, &tape[..len])?)

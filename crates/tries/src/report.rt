@@ -1,81 +1,60 @@
-use std::alloc::Global;
-
-/// How often something was tried, and how often it came out as it should.
-#[derive(Clone, Copy, Drop)]
-pub struct Tally {
-    pub tried: u32,
-    pub agreed: u32,
-}
-
-/// Something that came out otherwise than it should.
-#[derive(Clone, Copy, Drop)]
-pub struct Miss {
-    pub what: &'static str,
-    /// Which of the tries it was, counted from 1.
-    pub case: u32,
-    pub got: usize,
-    pub wanted: usize,
-}
+use rehearsal::tally::Tally;
+use std::alloc::{AllocError, Global};
+use std::fmt::Debug;
 
 /// What was tried, and what came of it.
 #[derive(Drop)]
 pub struct Report {
+    heap: Global,
     /// What is being tried.
-    pub what: &'static str,
+    what: String,
     pub row: Tally,
     pub all: Tally,
-    pub misses: Vec<Miss>,
-}
-
-impl Tally {
-    pub fn new() -> Tally {
-        Tally {
-            tried: 0,
-            agreed: 0,
-        }
-    }
-
-    fn count(&mut self, agrees: bool) {
-        self.tried = self.tried.saturating_add(1);
-        if agrees {
-            self.agreed = self.agreed.saturating_add(1);
-        }
-    }
+    /// A line for each try that came out otherwise than it should.
+    pub misses: Vec<String>,
 }
 
 impl Report {
     pub fn new(heap: Global) -> Report {
         Report {
-            what: "",
+            heap,
+            what: String::new(heap),
             row: Tally::new(),
             all: Tally::new(),
             misses: Vec::new(heap),
         }
     }
 
-    /// Begins a row.
-    pub fn begin(&mut self, what: &'static str) {
-        self.what = what;
+    /// Begins a row. Where its name finds no memory the counts still tell.
+    pub fn begin(&mut self, what: &str) {
+        self.what.clear();
+        let _ = self.what.push_str(what);
         self.row = Tally::new();
     }
 
+    /// Notes what came out, and what should have. Where the answer is right, what the call left is not.
+    fn miss<T: Debug>(&mut self, got: &T, wanted: &T) -> Result<(), AllocError> {
+        let what = &self.what;
+        let case = self.row.tried;
+        let line = format!(in self.heap;
+            "{what}, case {case}: answer {got:?}, should be {wanted:?}"
+        )?;
+        self.misses.push(line)?;
+        Ok(())
+    }
+
     /// Counts a try that answered `got`, and left everything as it should be or not. Where a miss finds no memory the counts still tell.
-    pub fn hold(&mut self, got: usize, wanted: usize, left: bool) {
+    pub fn hold<T: PartialEq + Debug + Drop>(&mut self, got: T, wanted: T, left: bool) {
         let agrees = got == wanted && left;
         self.row.count(agrees);
         self.all.count(agrees);
         if !agrees {
-            let _ = self.misses.push(Miss {
-                what: self.what,
-                case: self.row.tried,
-                got,
-                wanted,
-            });
+            let _ = self.miss(&got, &wanted);
         }
     }
 
     /// Counts a try that came out as it should or not.
     pub fn hold_true(&mut self, is: bool) {
-        self.hold(usize::from(is), 1, true);
+        self.hold(is, true, true);
     }
 }

@@ -13,4 +13,4 @@ returns c = λ calls h.
     (let closed = c.close-rig.ensures.law calls h in
     let laid = c.lay.ensures.law (calls ++ Close ∷ []) closed in
     let opened = c.open.ensures.law _ laid in
-    subst (λ (cs : List Call). LeftBy cs (map_of c.open.result.layout)) (three calls Close _ Open) opened)
+    subst (λ (cs : List Call). LeftBy cs (map_of c.open.result)) (three calls Close _ Open) opened)
