@@ -22,7 +22,7 @@ pub struct Report {
     pub layer: u32,
 }
 
-/// The code of a layer.
+/// The code of a layer: a plain number, as C takes it.
 fn code_of(layer: Layer) -> u32
     ensures { result ≡ layer_code (layer_name layer) }
 {

@@ -1,5 +1,5 @@
 -- A tape that was written and then played.
-use Rattle.std.proofs.Common.{◌≡◌, ℕ, Bool, true, false, cond, ltb, List, ◌++◌, length, take, drop, Option, sym, refl, ap, ◌∙◌, subst, arith}
+use Rattle.std.proofs.Common.{◌≡◌, ℕ, Bool, true, false, cond, ltb, List, ◌++◌, length, take, drop, Option, sym, refl, ap, ◌∙◌, subst}
 use Rattle.std.proofs.lemmas.List.{take_at}
 use Rattle.track.specs.declared.rig.Rig.{Rig}
 use Rattle.track.specs.Answers.{gave, refused}
@@ -17,7 +17,7 @@ tape_stands m was is n (a, w) = go (ltb (length was) (length (tape_of m))) refl 
   where
     go : (b : Bool) → ltb (length was) (length (tape_of m)) ≡ b → gave n ≡ cond b (refused 17) (gave (length (tape_of m))) → is ≡ cond b was (tape_of m ++ drop (length (tape_of m)) was)
         → (take n is ≡ tape_of m) × (ltb (length was) (length (tape_of m)) ≡ false)
-    go true t e u = let z : ◌≡◌ {A = ℕ} 0 1 = cc in absurd (omega arith)
+    go true t e u = cc
     go false t e u =
         let size : n ≡ length (tape_of m) = cc in
         (ap (take n) u ∙ take_at (tape_of m) (drop (length (tape_of m)) was) n (sym size), t)

@@ -33,25 +33,17 @@ fitted_by true line was is m t e w =
       front = ap (take m) w ∙ take_at line (drop (length line) was) m (sym n);
       back = ap (drop m) w ∙ drop_at line (drop (length line) was) m (sym n) ∙ ap (λ k. drop k was) (sym n);
     }
-fitted_by false line was is m t e w = let z : ◌≡◌ {A = ℕ} 0 1 = cc in absurd (omega arith)
+fitted_by false line was is m t e w = cc
 
 fitted : (line was is : List ℕ) (m : ℕ) → Ok m ≡ line_told line was → is ≡ line_left line was → Fitted line was is m
 fitted line was is m e w = fitted_by (leb (length line) (length was)) line was is m refl e w
 
 unfitted_by : (b : Bool) (line was is : List ℕ) (n : ℕ) (layer : LayerName) → leb (length line) (length was) ≡ b → ◌≡◌ {A = ToldTurn} (Err (n, layer)) (cond b (Ok (length line)) (Err (18, in_listing))) → is ≡ cond b (line ++ drop (length line) was) was
     → (length was < length line) × (n ≡ 18) × (layer ≡ in_listing) × (is ≡ was)
-unfitted_by true line was is n layer t e w = let z : ◌≡◌ {A = ℕ} 0 1 = cc in absurd (omega arith)
+unfitted_by true line was is n layer t e w = cc
 unfitted_by false line was is n layer t e w =
     let p : ◌≡◌ {A = ℕ × LayerName} (n, layer) (18, in_listing) = cc in
     (leb-false (length line) (length was) t, ap (λ (x : ℕ × LayerName). x.0) p, ap (λ (x : ℕ × LayerName). x.1) p, w)
-
--- how much was written
-pub written_within : (s : Step) (d : Desk) (was : List ℕ) (m : ℕ) (d' : Desk) (is : List ℕ) → Obeyed s d was (Ok m) d' is → m ≤ length was
-written_within (done e) d was m d' is h = let q = h.0 in let z : m ≡ 0 = cc in omega arith
-written_within (failed n layer) d was m d' is h = let q = h.0 in let z : ◌≡◌ {A = ℕ} 0 1 = cc in absurd (omega arith)
-written_within (asked kind home mark) d was m d' is h =
-    let f = fitted (line_of kind home mark h.0) was is m h.2 h.4 in
-    omega arith
 
 -- a command that was obeyed: what comes of the rest comes, behind its line, of the whole
 module _ (place : ℕ) (c : Said) (rest : List Item) (d d' : Desk) (was is : List ℕ) where
@@ -66,7 +58,7 @@ module _ (place : ℕ) (c : Said) (rest : List Item) (d d' : Desk) (was is : Lis
             (may_done d place c rest (length was) e o q (subst (λ (x : Desk). May x rest (length was) o) h.1 (subst (λ (n : ℕ). May d' rest n o) r k))),
         ap (drop m) h.2,
       )
-  obeyed_on (failed n layer) m q h = let a = h.0 in let z : ◌≡◌ {A = ℕ} 0 1 = cc in absurd (omega arith)
+  obeyed_on (failed n layer) m q h = let a = h.0 in cc
   obeyed_on (asked kind home mark) m q h =
       let line = line_of kind home mark h.0 in
       let f = fitted line was is m h.2 h.4 in (
@@ -80,7 +72,7 @@ module _ (place : ℕ) (c : Said) (rest : List Item) (d d' : Desk) (was is : Lis
   -- one that was not
   obeyed_off : (s : Step) (n : ℕ) (layer : LayerName) → step d c ≡ s → Obeyed s d was (Err (n, layer)) d' is
       → May d (record { place = place; says = Ok c } ∷ rest) (length was) (faults d n place layer) × (d' ≡ d) × (is ≡ was)
-  obeyed_off (done e) n layer q h = let a = h.0 in let z : ◌≡◌ {A = ℕ} 0 1 = cc in absurd (omega arith)
+  obeyed_off (done e) n layer q h = let a = h.0 in cc
   obeyed_off (failed n' layer') n layer q h =
       let a = h.0 in
       let p : ◌≡◌ {A = ℕ × LayerName} (n', layer') (n, layer) = cc in (
@@ -112,7 +104,7 @@ module _ (place : ℕ) (bs : List ℕ) (some : 0 < length bs) (d d' : Desk) (was
             (g.0 o (subst (λ (k : ℕ). May d' (items (place + k) 0 (drop k bs)) (length was - t.written) o) size k)),
         g.1,
       )
-  turned_on (Err e) t q h p = let a = h.0 in let z : ◌≡◌ {A = ℕ} 0 1 = cc in absurd (omega arith)
+  turned_on (Err e) t q h p = let a = h.0 in cc
 
   -- or the fault
   turned_off : (x : Read) (layer : Layer) → decode bs ≡ x → Turned x d was (Err layer) d' is

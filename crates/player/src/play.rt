@@ -28,6 +28,7 @@ pub fn play(tape: &[u8], listing: &mut [u8]) -> Played
     ensures { PlayDone tape.now listing.old (map_of result.rig) result.len (told_faults result.fault) listing.new }
 {
     let mut desk = Desk::new();
+    // By place, since only a command that was read says where the next begins, and a fault tells its place.
     let mut at = 0;
     let mut len = 0;
     while at < tape.len() {
