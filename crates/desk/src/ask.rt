@@ -7,8 +7,9 @@ use crate::rules::Rules;
 use arrayvec::ArrayVec;
 use routing::refusal::SearchRefusal;
 use routing::route::route;
+use std::mem;
 use tape::command::Question;
-use track::rig::{Rig, Show};
+use track::rig::{GetIn, Rig, Show};
 use track::run::MOST_RUNS;
 
 /// A route that was found: what it costs, and its runs in hauling order.
@@ -39,5 +40,18 @@ impl Rules {
         )?;
         runs.truncate(count);
         Ok(Route { cost, runs })
+    }
+
+    /// Opens a rig, asks the route of it, and closes it again.
+    ///
+    /// Refuses as `ask` does. The rig has the map that it had.
+    pub fn ask_of(&self, rig: &mut Rig<GetIn>, question: Question) -> Result<Route, SearchRefusal>
+        ensures done { AskDone (desk_of (map_of rig.old) self.now) question.kind question.home question.mark (told_route result) }
+        ensures same { map_of rig.new ≡ map_of rig.old }
+    {
+        let show = mem::replace(rig, Rig::new()).open();
+        let answer = self.ask(&show, question);
+        *rig = show.close();
+        answer
     }
 }

@@ -80,15 +80,12 @@ impl Desk {
         Ok(write_line(rest, question, route.as_ref())?)
     }
 
-    /// Opens the rig, asks a route of it, and closes it again: none where there is no way.
+    /// Asks a route of the rig: none where there is no way.
     fn find(&mut self, question: Question) -> Result<Option<Route>, SearchRefusal>
         ensures found { Found (desk_in self.old) question.kind question.home question.mark result }
         ensures same { desk_in self.new ≡ desk_in self.old }
     {
-        let show = std::mem::replace(&mut self.rig, Rig::new()).open();
-        let found = self.rules.ask(&show, question);
-        self.rig = show.close();
-        match found {
+        match self.rules.ask_of(&mut self.rig, question) {
             Ok(route) => Ok(Some(route)),
             Err(SearchRefusal::NoWay) => Ok(None),
             Err(refusal) => Err(refusal),

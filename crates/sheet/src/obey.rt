@@ -18,7 +18,6 @@ use reader::rulings::Ruling;
 use reader::text::first_line;
 use reader::words::{Call, Line, read_line};
 use std::alloc::{AllocError, Global};
-use std::mem;
 use tape::command::{Question, RuleName};
 use track::rig::{GetIn, Rig};
 
@@ -97,17 +96,15 @@ impl Desk {
         }
     }
 
-    /// Opens the rig, asks a route of it, and closes it again.
+    /// Asks a route of the rig.
     fn answer(&mut self, question: Question) -> Outcome
         ensures told { Told (desk_in self.old) (asks question) (replied result) }
         ensures same { desk_in self.new ≡ desk_in self.old }
     {
-        let show = mem::replace(&mut self.rig, Rig::new()).open();
-        let answer = self.rules.ask(&show, question);
-        self.rig = show.close();
+        let route = self.rules.ask_of(&mut self.rig, question)?;
         Ok(Done::Routed {
             kind: question.kind,
-            route: answer?,
+            route,
         })
     }
 
