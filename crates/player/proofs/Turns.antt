@@ -45,6 +45,14 @@ unfitted_by false line was is n layer t e w =
     let p : ◌≡◌ {A = ℕ × LayerName} (n, layer) (18, in_listing) = cc in
     (leb-false (length line) (length was) t, ap (λ (x : ℕ × LayerName). x.0) p, ap (λ (x : ℕ × LayerName). x.1) p, w)
 
+-- how much was written
+pub written_within : (s : Step) (d : Desk) (was : List ℕ) (m : ℕ) (d' : Desk) (is : List ℕ) → Obeyed s d was (Ok m) d' is → m ≤ length was
+written_within (done e) d was m d' is h = let q = h.0 in let z : m ≡ 0 = cc in omega arith
+written_within (failed n layer) d was m d' is h = let q = h.0 in cc
+written_within (asked kind home mark) d was m d' is h =
+    let f = fitted (line_of kind home mark h.0) was is m h.2 h.4 in
+    omega arith
+
 -- a command that was obeyed: what comes of the rest comes, behind its line, of the whole
 module _ (place : ℕ) (c : Said) (rest : List Item) (d d' : Desk) (was is : List ℕ) where
   obeyed_on : (s : Step) (m : ℕ) → step d c ≡ s → Obeyed s d was (Ok m) d' is
