@@ -102,7 +102,7 @@ fn try_surveys_from(
     Ok(())
 }
 
-/// Tries the routes from one home to one mark.
+/// Tries the routes from one home to one mark. A loop that is passed what to ask and in which words is no plainer than these two.
 fn try_routes_between(
     rig: &Rig<Show>,
     home: u8,

@@ -59,6 +59,8 @@ fn begin_labels<K: CostKind, R: HandoverRule>(
 }
 
 /// Relaxes every run by every labelled run, and says whether a label changed.
+///
+/// The label of the last run is read by its place, since all labels are lent out to be lowered.
 fn relax_all<K: CostKind, R: HandoverRule>(
     asked: &Question<K, R>,
     labels: &mut [Option<K::Cost>],

@@ -8,7 +8,7 @@ use rehearsal::worked::{flat_at, map_w};
 use routing::refusal::SearchRefusal;
 use routing::route::route;
 use std::alloc::Global;
-use track::rig::{Rig, Show};
+use track::rig::{GetIn, Rig, Show};
 use walks::by_point::ByPoint;
 use walks::hand_overs::HandOvers;
 use walks::kind::CostKind;
@@ -165,8 +165,7 @@ pub fn try_worked_cases(score: &mut Tally, log: &mut Log) -> Result<(), Fault> {
         round_by_four(heap),
         on_new_rig(heap),
     ];
-    for (i, outcome) in outcomes.iter().enumerate() {
-        let case = i + 1;
+    for (case, outcome) in (1u8..).zip(&outcomes) {
         log.judge(score, *outcome, format_args!("worked case {case}"))?;
     }
     Ok(())

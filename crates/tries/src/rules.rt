@@ -6,7 +6,7 @@ use walks::refusal::RuleRefusal;
 use walks::rule::HandoverRule;
 use walks::setting::BARRED;
 
-/// A setting.
+/// A setting. A tape's command may be another thing.
 #[derive(Clone, Copy, Drop)]
 enum Setting {
     Flat(u16),

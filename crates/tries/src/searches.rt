@@ -78,32 +78,30 @@ fn first(checks: &[(bool, u8)]) -> Option<u8> {
 }
 
 /// What the table should be after a search from a home, or where there was none.
-fn table_after(searched: bool, home: u8) -> [Place<u32>; TABLE] {
-    if !searched {
-        [UNTOUCHED; TABLE]
-    } else if home == 0 {
-        TABLE_FROM_0
-    } else {
-        TABLE_FROM_127
+fn table_after(searched: Option<u8>) -> [Place<u32>; TABLE] {
+    match searched {
+        Some(0) => TABLE_FROM_0,
+        Some(_) => TABLE_FROM_127,
+        None => [UNTOUCHED; TABLE],
     }
 }
 
-/// What place `point` of the board should be after a survey, or where there was none.
-fn place_after(searched: bool, home: u8, point: usize) -> Place<u32> {
-    if !searched || point >= 128 {
-        UNTOUCHED
-    } else if point == usize::from(home) {
-        Some(Reached { cost: 0, run: None })
-    } else if home == 0 && point < 4 {
-        BOARD_FROM_0[point]
-    } else {
-        None
+/// What place `point` of the board should be after a survey from a home, or where there was none.
+fn place_after(searched: Option<u8>, point: usize) -> Place<u32> {
+    match searched {
+        Some(home) if point == usize::from(home) => Some(Reached { cost: 0, run: None }),
+        Some(0) if point < 4 => BOARD_FROM_0[point],
+        Some(_) if point < 128 => None,
+        _ => UNTOUCHED,
     }
 }
 
 /// Whether a board is as it should be.
-fn board_holds(board: &[Place<u32>; BOARD], searched: bool, home: u8) -> bool {
-    board.iter().enumerate().all(|(point, place)| *place == place_after(searched, home, point))
+fn board_holds(board: &[Place<u32>; BOARD], searched: Option<u8>) -> bool {
+    board
+        .iter()
+        .enumerate()
+        .all(|(point, place)| *place == place_after(searched, point))
 }
 
 /// A survey with a table and a board of these sizes.
@@ -119,8 +117,11 @@ fn try_survey(show: &Rig<Show>, home: u8, places: usize, room: usize, report: &m
         &mut table[..places.min(TABLE)],
         &mut board[..room.min(BOARD)],
     );
-    let searched = wanted.is_none();
-    let left = table == table_after(searched, home) && board_holds(&board, searched, home);
+    let searched = match wanted {
+        Some(_) => None,
+        None => Some(home),
+    };
+    let left = table == table_after(searched) && board_holds(&board, searched);
     report.hold(answer.err().map(u8::from), wanted, left);
 }
 
@@ -174,12 +175,15 @@ fn try_route(
         &mut table[..places.min(TABLE)],
         &mut list[..room.min(TABLE)],
     );
-    let searched = wanted.is_ok() || wanted == Err(11);
+    let searched = match wanted {
+        Ok(_) | Err(11) => Some(home),
+        Err(_) => None,
+    };
     let list_wanted = match wanted {
         Ok((3, _)) => [1, 2, 3, NO_RUN, NO_RUN],
         _ => [NO_RUN; TABLE],
     };
-    let left = list == list_wanted && table == table_after(searched, home);
+    let left = list == list_wanted && table == table_after(searched);
     report.hold(answer.map_err(u8::from), wanted, left);
 }
 
