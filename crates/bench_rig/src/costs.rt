@@ -29,6 +29,7 @@ fn write_costs(board: &[Place<u32>], row: &mut [u32])
     requires { length board.now ≡ length row.old }
     ensures { (v : ℕ) → v < length board.now → slice_index row.new v ≡ cost_number (place_at board.now v) }
 {
+    // By number: of costs lent for writing and zipped a proof knows nothing afterwards.
     for (v, cost) in row.iter_mut().enumerate() {
         *cost = cost_of(board[v]);
     }

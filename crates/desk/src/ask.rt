@@ -13,7 +13,7 @@ use track::rig::{GetIn, Rig, Show};
 use track::run::MOST_RUNS;
 
 /// A route that was found: what it costs, and its runs in hauling order.
-#[derive(Drop)]
+#[derive(Clone, Drop)]
 pub struct Route {
     pub cost: u64,
     pub runs: ArrayVec<u16, MOST_RUNS>,

@@ -1,4 +1,3 @@
-ghost use Rattle.std.specs.Prelude.{◌≡◌};
 ghost use Rattle.track.specs.Answers.{told};
 ghost use Rattle.track.specs.Calls.{map_of};
 ghost use Rattle.routing.specs.Refusals.{number};

@@ -1,12 +1,10 @@
 // Buffers to lend: filled with marks, so that it shows which places were written.
 use crate::fault::Fault;
 use crate::relaxation::is_same;
+use rehearsal::worked::NO_RUN;
 use routing::place::{Place, Reached};
 use std::alloc::{AllocError, Global};
 use walks::kind::CostKind;
-
-/// A run that no rig has.
-const NO_RUN: u16 = 60_000;
 
 /// What place `i` of a table or a board is filled with: absent and reached in turn.
 fn marked_place<K: CostKind>(kind: &K, i: usize) -> Place<K::Cost> {

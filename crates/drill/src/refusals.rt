@@ -102,7 +102,9 @@ fn try_surveys_from(
     Ok(())
 }
 
-/// Tries the routes from one home to one mark. A loop that is passed what to ask and in which words is no plainer than these two.
+/// Tries the routes from one home to one mark.
+// As from one home alone, but for the sizes, the call and the words: words are made of what is captured at each turn,
+// so that a loop passed to both would be passed a closure that makes them and the call too, and is no plainer.
 fn try_routes_between(
     rig: &Rig<Show>,
     home: u8,

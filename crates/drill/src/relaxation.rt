@@ -45,6 +45,8 @@ pub fn lower<K: CostKind>(kind: &K, label: &mut Option<K::Cost>, offer: Option<K
 }
 
 /// The labels of the runs before any is relaxed: what walks of one run cost.
+///
+/// They stand beside the runs, as the places of a table do; a list of both would copy the runs.
 fn begin_labels<K: CostKind, R: HandoverRule>(
     heap: Global,
     asked: &Question<K, R>,

@@ -8,7 +8,7 @@ use rehearsal::worked::{flat_at, map_w};
 use routing::refusal::SearchRefusal;
 use routing::route::route;
 use std::alloc::Global;
-use track::rig::{GetIn, Rig, Show};
+use track::rig::{Rig, Show};
 use walks::by_point::ByPoint;
 use walks::hand_overs::HandOvers;
 use walks::kind::CostKind;

@@ -1,4 +1,4 @@
-ghost use Rattle.std.specs.Prelude.{List, [], ◌∷◌};
+ghost use Rattle.std.specs.Prelude.{[], ◌∷◌};
 ghost use Rattle.track.specs.Answers.{told};
 ghost use Rattle.track.specs.Refusals.{number as map_number};
 ghost use Rattle.track.specs.Map.{blank};

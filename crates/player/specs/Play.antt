@@ -70,7 +70,7 @@ behind line o = record { desk = o.desk; text = line ++ o.text; fault = o.fault }
 abbrev pub listed : Desk → (place : ℕ) → (line : List ℕ) → (room : ℕ) → (ℕ → Outcome) → Outcome
 listed d place line room on = cond (nat_le (length line) room) (behind line (on (room - length line))) (faults d 18 place in_listing)
 
--- the next reply answers the question; there is always one, see Replies-right
+-- the next reply answers the question; there is always one, see RepliesRight
 abbrev pub replied : Desk → (place : ℕ) → KindName → (home mark : ℕ) → List Reply → (room : ℕ) → (List Reply → ℕ → Outcome) → Outcome
 replied d place kind home mark [] room on = ends d
 replied d place kind home mark (r ∷ rs) room on = listed d place (line_of kind home mark r) room (λ left. on rs left)

@@ -1,4 +1,3 @@
-ghost use Rattle.std.specs.Prelude.{◌≡◌};
 ghost use Rattle.track.specs.Calls.{map_of};
 ghost use Rattle.player.specs.Copies.{told_copy, CopyDone};
 

@@ -1,5 +1,5 @@
 ghost use Rattle.std.specs.Prelude.{◌≡◌, Some};
-ghost use Rattle.player.specs.Faults.{layer_number, layer_name, word, listing_number, told_fault, fault_text};
+ghost use Rattle.player.specs.Faults.{layer_number, layer_name, word as word_of, listing_number, told_fault, fault_text};
 ghost use Rattle.player.specs.declared.fault.Layer.TheVariants.{Tape, Map, Rule, Search, Listing};
 
 use routing::refusal::SearchRefusal;
@@ -54,18 +54,26 @@ impl From<Layer> for u8 {
     }
 }
 
-impl fmt::Display for Layer {
-    ghost output = { λ layer. Some (word (layer_name layer)) };
-
+impl Layer {
     /// The word by which the layer is told.
-    fn fmt<W: fmt::Write>(&self, f: &mut fmt::Formatter<W>) -> fmt::Result {
-        f.write_str(match self {
+    pub fn word(self) -> &'static str
+        ensures { result.now ≡ word_of (layer_name self) }
+    {
+        match self {
             Layer::Tape(_) => "tape",
             Layer::Map(_) => "map",
             Layer::Rule(_) => "rule",
             Layer::Search(_) => "search",
             Layer::Listing(_) => "listing",
-        })
+        }
+    }
+}
+
+impl fmt::Display for Layer {
+    ghost output = { λ layer. Some (word_of (layer_name layer)) };
+
+    fn fmt<W: fmt::Write>(&self, f: &mut fmt::Formatter<W>) -> fmt::Result {
+        f.write_str(self.word())
     }
 }
 

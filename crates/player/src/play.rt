@@ -1,4 +1,4 @@
-ghost use Rattle.std.specs.Prelude.{◌≡◌, ◌<◌, ◌≤◌, length, IfOk};
+ghost use Rattle.std.specs.Prelude.{◌<◌, ◌≤◌, length, IfOk};
 ghost use Rattle.track.specs.Calls.{map_of};
 ghost use Rattle.tape.specs.Reading.{decode};
 ghost use Rattle.player.specs.Faults.{told_faults};

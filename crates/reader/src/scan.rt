@@ -1,4 +1,4 @@
-ghost use Rattle.std.specs.Prelude.{◌≡◌, ℕ, ◌+◌, ◌<◌, ◌≤◌, ◌==◌, position, IfSome};
+ghost use Rattle.std.specs.Prelude.{◌≡◌, ◌<◌, ◌≤◌, ◌==◌, position, IfSome};
 ghost use Rattle.reader.specs.Scan.{trimmed, word, behind, number, next, over, ended};
 ghost use Rattle.reader.specs.Said.{went_on};
 

@@ -6,6 +6,9 @@ ghost use Rattle.rehearsal.specs.Cases.{W};
 use track::rig::{GetIn, Rig};
 use walks::flat::Flat;
 
+/// A run that no rig has, to fill buffers with.
+pub const NO_RUN: u16 = 60_000;
+
 /// The map W, on which most of the worked cases are: two ways from 0 to 1, one by way of 2, and one on to 3.
 pub fn map_w() -> Rig<GetIn>
     ensures { LeftBy W (map_of result) }

@@ -1,5 +1,5 @@
-ghost use Rattle.std.specs.Prelude.{◌≡◌, ℕ, ◌<◌, ◌≤◌, length};
-ghost use Rattle.track.specs.Sizes.{points, most_runs};
+ghost use Rattle.std.specs.Prelude.{◌≡◌, ℕ, ◌<◌, length};
+ghost use Rattle.track.specs.Sizes.{points};
 ghost use Rattle.routing.specs.Tables.{place as place_at, TableHolds, BoardPlace, BoardHolds};
 ghost use Rattle.routing.specs.Asked.{asked};
 ghost use Rattle.routing.specs.Offers.{BestInto};
@@ -20,6 +20,7 @@ fn best_into<K: CostKind, R: HandoverRule>(
     ensures { BestInto (K.CostKind.meaning task.now.kind.now) task.now.runs.now table.now (length task.now.runs.now) point result }
 {
     let mut best = None;
+    // By number, which the place keeps: a triple zip with it is no plainer.
     for (i, run) in task.runs.iter().enumerate() {
         if run.head == point {
             improve(
@@ -63,6 +64,7 @@ fn offer_runs<K: CostKind, R: HandoverRule>(
     requires cleared { (v : ℕ) → place_at board.old v ≡ None }
     ensures { (v : ℕ) → v < length board.old → BestInto (K.CostKind.meaning task.now.kind.now) task.now.runs.now table.now (length task.now.runs.now) v (place_at board.new v) }
 {
+    // By number, which the place keeps: a triple zip with it is no plainer.
     for (i, run) in task.runs.iter().enumerate() {
         let head = usize::from(run.head);
         improve(

@@ -1,5 +1,4 @@
 ghost use Rattle.std.specs.Prelude.{◌≡◌, ◌<◌, ◌≤◌, List, [], ◌∷◌, ◌++◌, length};
-ghost use Rattle.track.specs.Sizes.{most_runs};
 ghost use Rattle.track.specs.Answers.{told};
 ghost use Rattle.track.specs.Map.{Call};
 ghost use Rattle.track.specs.Map.Call.{Route};
@@ -25,6 +24,7 @@ use walks::rule::HandoverRule;
 ///
 /// Refuses with 1 a home or a mark above 127, with 8 a table and with 9 a list that has fewer places than runs were laid;
 /// table and list are then as they were. Refuses with 11 where no legal walk leads to the mark; the list is then as it was.
+// A number of runs beside the cost: the list is the caller's, who allocates or not, and is longer than the route.
 pub fn route<K: CostKind, R: HandoverRule>(
     rig: &Rig<Show>,
     kind: &K,

@@ -1,5 +1,4 @@
 ghost use Rattle.std.specs.Prelude.{◌≡◌, ◌<◌, ◌≤◌, length, MatchOption};
-ghost use Rattle.track.specs.Sizes.{most_runs};
 ghost use Rattle.walks.specs.Moves.{begin_cost};
 ghost use Rattle.routing.specs.Tables.{TableHolds};
 ghost use Rattle.routing.specs.Asked.{asked};
@@ -60,6 +59,7 @@ fn begin_all<K: CostKind, R>(task: &Task<K, R>, table: &mut [Place<K::Cost>])
     requires { length table.old ≡ length task.now.runs.now }
     ensures { Begun (K.CostKind.meaning task.now.kind.now) task.now.home task.now.runs.now table.new }
 {
+    // By number: of places lent for writing and zipped a proof knows nothing afterwards.
     for (run, place) in table.iter_mut().enumerate() {
         *place = begin(task.kind, task.home, task.runs[run]);
     }
@@ -75,6 +75,7 @@ fn next_waiting<K: CostKind>(
     ensures { MatchOption result (NoneWaits table.now taken.now (length table.now)) (λ x. Lowest (K.CostKind.meaning kind.now).at_most table.now taken.now (length table.now) x.run x.cost) }
 {
     let mut lowest: Option<Waiting<K::Cost>> = None;
+    // By number, which is the answer: zipped with what is taken, five goals stayed open.
     for (run, place) in table.iter().enumerate() {
         if !taken[run] {
             if let Some(place) = place {
@@ -107,6 +108,7 @@ fn relax<K: CostKind, R: HandoverRule>(
     let (kind, rule, runs) = (task.kind, task.rule, task.runs);
     let last = runs[run];
     let before = run as u16;
+    // By number: of places lent for writing and zipped a proof knows nothing afterwards.
     for (next, place) in table.iter_mut().enumerate() {
         let waits = !taken[next];
         let offer = follow(kind, rule, last, runs[next], cost).filter(|_| waits);

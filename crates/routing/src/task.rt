@@ -4,6 +4,7 @@ ghost use Rattle.routing.specs.Heads.{HeadsBelow};
 
 use track::run::Run;
 
+// The table stays beside it: a struct that held the loan of it would have each function say that it holds the same one still.
 /// What is asked: by which kind of cost and hand-over rule, over which runs, from which home.
 #[derive(Drop)]
 pub(crate) struct Task<'a, 'b, K, R> {

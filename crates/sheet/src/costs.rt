@@ -3,9 +3,7 @@ ghost use Rattle.sheet.specs.Wording.{seconds, plural, cost_words};
 
 use std::fmt;
 use tape::command::KindName;
-
-/// What a hand-over counts for in a cost by hand-overs; the rest is time.
-const CHANGE: u64 = 4_294_967_296;
+use walks::hand_overs::CHANGE;
 
 /// A time in tenths of a second, shown in seconds.
 #[derive(Clone, Copy)]

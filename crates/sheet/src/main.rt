@@ -18,7 +18,7 @@ use std::io;
 use std::io::{Read, Write};
 use tape_text::tape_text;
 use track::rig::{GetIn, Rig};
-use track::run::Run;
+use track::run::{NO_NAME, Run};
 use winches::winches_in_use;
 
 /// Prints a route run by run, with each hand-over on the way. A run's points and its winch stay as they are laid.
@@ -72,7 +72,7 @@ fn print_runs(rt: &HostRuntime, rig: &Rig<GetIn>) -> io::Result<()> {
 /// Prints the points that have a name.
 fn print_names(rt: &HostRuntime, rig: &Rig<GetIn>) -> io::Result<()> {
     for (point, name) in rig.names().iter().enumerate() {
-        if *name != [b' '; 8] {
+        if *name != NO_NAME {
             print!(rt; "point {point}: ")?;
             rt.stdout().write_all(name)?;
             println!(rt)?;

@@ -1,5 +1,5 @@
 ghost use Rattle.std.specs.Prelude.{◌≡◌, [], ◌∷◌, map, IfOk, OnOk};
-ghost use Rattle.track.specs.Map.{Map, after, blank};
+ghost use Rattle.track.specs.Map.{Map, after};
 ghost use Rattle.track.specs.Calls.{map_of};
 ghost use Rattle.desk.specs.Desks.{new_desk};
 ghost use Rattle.desk.specs.Asking.{desk_of};

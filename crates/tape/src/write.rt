@@ -11,10 +11,10 @@ ghost use Rattle.tape.specs.Buffers.{put_front, run_bytes, name_bytes};
 
 use crate::refusal::WriteRefusal;
 use track::rig::{GetIn, Rig};
-use track::run::Run;
+use track::run::{MOST_RUNS, NO_NAME, POINTS, Run};
 
-/// The name of a point that was not named.
-const NO_NAME: [u8; 8] = [b' '; 8];
+/// The most bytes that a tape has: 256 runs, all struck, and 128 names.
+pub const LONGEST: usize = MOST_RUNS * 9 + POINTS * 10;
 
 /// Writes the tape of the rig's map at the beginning of `out` and answers its length.
 ///

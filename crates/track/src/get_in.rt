@@ -8,11 +8,9 @@ ghost use Rattle.track.specs.Calls.{map_of, LeftBy, LayDone, StrikeDone, RetimeD
 
 use crate::refusal::MapRefusal;
 use crate::rig::{GetIn, Rig, Show};
-use crate::run::{MOST_RUNS, MOST_STRAIN, POINTS, Run, RunTable, WINCHES};
+use crate::run::{MOST_RUNS, MOST_STRAIN, NO_NAME, POINTS, Run, RunTable, WINCHES};
 use arrayvec::ArrayVec;
 use std::marker::PhantomData;
-
-const NO_NAME: [u8; 8] = [b' '; 8];
 
 impl Rig<GetIn> {
     /// A new rig, with no runs and no point named.
@@ -33,7 +31,7 @@ impl Rig<GetIn> {
     ///
     /// Refuses with 1 a tail or head above 127, with 2 a run from a point to itself, with 3 a winch above 15,
     /// with 4 a strain above 100, and with 5 the 257th run.
-    // Five operands, as a tape and a sheet have them: a struct would have its fields written out at each call, and be no plainer.
+    // Five operands, as the rules, every clause of this call and its like on tapes and sheets name them: a struct for them would be one more name for the same.
     pub fn lay(
         &mut self,
         tail: u8,

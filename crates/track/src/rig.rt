@@ -17,6 +17,7 @@ pub struct GetIn;
 pub struct Show;
 
 /// A rig in the state `S`: the runs laid and the name of each point.
+// Clauses see its map by `map_of`, and no model: theorems on any rig, in crates above, rest on its ghost fields, which a model would keep from them.
 #[derive(Drop)]
 pub struct Rig<S> {
     pub(crate) table: RunTable,
@@ -64,6 +65,7 @@ impl<S> Rig<S> {
     }
 }
 
+// By hand: a derive would ask that states can be compared, and would not say that it decides whether two maps are equal.
 impl<S> PartialEq for Rig<S> {
     ghost use Rattle.std.specs.Prelude.{Decides};
     ghost use Rattle.track.specs.Calls.{map_of};

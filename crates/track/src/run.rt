@@ -15,6 +15,9 @@ pub const MOST_STRAIN: u8 = 100;
 /// How many runs may be laid, struck ones counted.
 pub const MOST_RUNS: usize = 256;
 
+/// The name of a point that was not named: eight spaces.
+pub const NO_NAME: [u8; 8] = [b' '; 8];
+
 /// A run: a one-way piece of track from its tail point to its head point, hauled by one winch.
 #[derive(Clone, Copy, Default, PartialEq, Eq, Debug)]
 pub struct Run {

@@ -77,7 +77,7 @@ const THEN: [Asked; 26] = [
     (RuleName::Pair, 0, 15, 16, None),
 ];
 
-/// Makes a setting.
+/// Makes a setting. The rows of the table are data, and matched: a table of closures would be no plainer.
 fn set(rules: &mut Rules, setting: Setting) -> Result<(), RuleRefusal> {
     match setting {
         Setting::Flat(setting) => {

@@ -1,6 +1,6 @@
 // Survey and route on the map W by time, the flat rule at 25: each refusal and each size of a buffer, in every mix.
 use crate::report::Report;
-use rehearsal::worked::{flat_at, map_w};
+use rehearsal::worked::{NO_RUN, flat_at, map_w};
 use routing::place::{Place, Reached};
 use routing::route::route;
 use routing::survey::survey;
@@ -20,9 +20,6 @@ const BOARDS: [usize; 4] = [0, 127, 128, 129];
 const TABLE: usize = 5;
 
 const BOARD: usize = 129;
-
-/// A run that no rig has: what buffers are filled with.
-const NO_RUN: u16 = 60_000;
 
 const UNTOUCHED: Place<u32> = Some(Reached {
     cost: 7,

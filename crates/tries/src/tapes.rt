@@ -1,11 +1,10 @@
 // Whole tapes, cut tapes, faults, and what their listings hold.
 use crate::house::{Call, make};
 use crate::report::Report;
-use arrayvec::{ArrayString, ArrayVec};
+use arrayvec::ArrayVec;
 use player::fault::Fault;
 use player::play::play;
 use rehearsal::worked::{flat_at, map_w};
-use std::fmt::{Display, Write};
 use track::rig::{GetIn, Rig};
 use walks::hand_overs::HandOvers;
 use walks::walk::walk_cost;
@@ -48,31 +47,12 @@ const TAPE_CALLS: [Call; 5] = [
     Call::Strike(1),
 ];
 
-/// A word in print.
-type Word = ArrayString<8>;
-
-fn printed<T: Display + Drop>(value: T) -> Word {
-    let mut word = Word::new();
-    let _ = write!(word, "{value}");
-    word
-}
-
 /// A fault as it is told: the place of its command, its number, and the word for its layer.
-#[derive(Drop, PartialEq, Eq, Debug)]
+#[derive(Clone, Copy, Drop, PartialEq, Eq, Debug)]
 struct Told {
     place: usize,
     number: u8,
-    layer: Word,
-}
-
-impl Told {
-    fn new(place: usize, number: u8, layer: &str) -> Told {
-        Told {
-            place,
-            number,
-            layer: printed(layer),
-        }
-    }
+    layer: &'static str,
 }
 
 impl From<Fault> for Told {
@@ -80,7 +60,7 @@ impl From<Fault> for Told {
         Told {
             place: fault.place,
             number: u8::from(fault.layer),
-            layer: printed(fault.layer),
+            layer: fault.layer.word(),
         }
     }
 }
@@ -132,7 +112,11 @@ pub fn cuts(report: &mut Report) {
                 &joined(&tape, &command[..end]),
                 ROOM,
                 &lines,
-                Some(Told::new(place, 15, "tape")),
+                Some(Told {
+                    place,
+                    number: 15,
+                    layer: "tape",
+                }),
                 report,
             );
         }
@@ -155,7 +139,11 @@ pub fn rooms(report: &mut Report) {
                 &tape,
                 room,
                 &lines,
-                Some(Told::new(place, 18, "listing")),
+                Some(Told {
+                    place,
+                    number: 18,
+                    layer: "listing",
+                }),
                 report,
             );
         }
@@ -233,9 +221,13 @@ const SEARCH_FAULTS: [Faulty; 4] = [
 ];
 
 /// Plays each command that faults, behind the others.
-fn fault_all(table: &[Faulty], layer: &str, report: &mut Report) {
+fn fault_all(table: &[Faulty], layer: &'static str, report: &mut Report) {
     for (faulty, number) in table {
-        let wanted = Told::new(FRONT.len(), *number, layer);
+        let wanted = Told {
+            place: FRONT.len(),
+            number: *number,
+            layer,
+        };
         hold_play(
             &joined(FRONT, faulty),
             ROOM,
@@ -267,7 +259,11 @@ fn fault_when_full(report: &mut Report) {
     let full = play(&tape[0..FULL], &mut listing);
     report.hold(full.rig.runs().len(), 256, full.fault.is_none());
     let played = play(&tape, &mut listing);
-    let wanted = Told::new(FULL, 5, "map");
+    let wanted = Told {
+        place: FULL,
+        number: 5,
+        layer: "map",
+    };
     report.hold(
         played.fault.map(Told::from),
         Some(wanted),

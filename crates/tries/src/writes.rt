@@ -2,14 +2,11 @@
 use crate::report::Report;
 use crate::tapes::{UNWRITTEN, begins_with, rig_of};
 use player::play::play;
-use tape::write::write;
+use tape::write::{LONGEST, write};
 use track::rig::{GetIn, Rig};
 
 /// Room for each tape here but the longest.
 const ROOM: usize = 64;
-
-/// The most bytes that a tape has: 256 runs, all struck, and 128 names.
-const LONGEST: usize = 256 * 9 + 128 * 10;
 
 /// A tape that makes a rig, and the tape of that rig.
 type Written = (&'static [u8], &'static [u8]);

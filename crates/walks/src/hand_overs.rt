@@ -4,7 +4,7 @@ ghost use Rattle.std.proofs.Common.{rules};
 use crate::kind::CostKind;
 
 /// What a joint of two different winches counts besides its penalty: more than any time.
-const CHANGE: u64 = 4_294_967_296;
+pub const CHANGE: u64 = 4_294_967_296;
 
 /// The hand-overs of a walk before its time: the time, and 4,294,967,296 for each joint of two different winches.
 /// It stops at 18,446,744,073,709,551,615.

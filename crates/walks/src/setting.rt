@@ -8,7 +8,8 @@ pub const BARRED: u16 = 65_535;
 
 /// What a setting says: the penalty of a joint, or `None` where it bars it.
 ///
-/// The rules keep settings as the numbers that calls, tapes and sheets give: an Option there would be turned back at each of these, and no plainer.
+/// The rules keep settings as the numbers that calls, tapes and sheets give, and that the contracts of `set` name:
+/// an Option there would be made at each `set` in place of once here, and take twice the memory.
 fn penalty_of(setting: u16) -> Option<u16>
     ensures { result ≡ said setting }
 {

@@ -1,8 +1,7 @@
-use Rattle.std.proofs.Common.{replicate, refl, rules}
+use Rattle.std.proofs.Common.{None, replicate, refl, rules}
 use Rattle.track.specs.Answers.{told}
 use Rattle.track.specs.Calls.{map_of}
 use Rattle.routing.specs.Refusals.{number}
-use Rattle.std.proofs.Common.{None}
 use Rattle.desk.specs.Asking.{desk_of}
 use Rattle.desk.proofs.Looks.{looked}
 use Rattle.desk.proofs.rules.Rules.look.Goals as goal
