@@ -10,7 +10,7 @@ use Rattle.tape.specs.declared.command.KindName.{KindName}
 use Rattle.desk.specs.Desks.{Desk, named_kind, named_rule, question}
 use Rattle.desk.specs.Looking.{RightBoard, Looked, LookDone}
 
-right_board : {C : Type 0} (k : Task C) (t b t' b' : List (Place C)) → TableLeft k t t' × BoardLeft k t' b b' → length b' ≤ points → RightBoard k b'
+pub right_board : {C : Type 0} (k : Task C) (t b t' b' : List (Place C)) → TableLeft k t t' × BoardLeft k t' b b' → length b' ≤ points → RightBoard k b'
 right_board k t b t' b' (table, board) few =
     let cut = take (length k.runs) t' in
     (cut, table.holds, subst (BoardHolds k cut) (take_all points b' few) board.holds)

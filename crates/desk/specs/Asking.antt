@@ -25,6 +25,11 @@ abbrev pub told_route : Result Route SearchRefusal → Answer (ℕ × List ℕ)
 told_route (Ok r) = gave (r.cost, r.runs.items)
 told_route (Err e) = refused (number e)
 
+-- the same of an answer whose route is written where it was asked for
+abbrev pub told_in : Result (Unit {0}) SearchRefusal → Route → Answer (ℕ × List ℕ)
+told_in (Ok x) r = gave (r.cost, r.runs.items)
+told_in (Err e) r = refused (number e)
+
 -- a search's answer to a question: a right reply, which is the refusal 11 where there is no way
 abbrev pub Answered : Desk → KindName → (home mark : ℕ) → Answer (ℕ × List ℕ) → Type 0
 Answered d kind home mark (gave route) = RightReply d kind home mark (Some route)

@@ -2,13 +2,15 @@
 use crate::buffers::{check_numbers, check_places, cost_of, marked_numbers, marked_places};
 use crate::fault::Fault;
 use crate::price::{check_walk, walk_back};
-use crate::question::Question;
+use crate::question::{Named, Question};
 use crate::relaxation::{is_same, least_to};
+use desk::rules::Rules;
 use routing::place::{Place, Reached};
 use routing::refusal::SearchRefusal;
 use routing::route::route;
 use routing::survey::survey;
 use std::alloc::Global;
+use tape::command;
 use track::rig::{Rig, Show};
 use track::run::{POINTS, Run};
 use walks::kind::CostKind;
@@ -170,6 +172,87 @@ pub fn check_route<K: CostKind, R: HandoverRule>(
                 return Err(Fault::Way);
             }
             check_numbers(&list, 0)
+        }
+        Err(refusal) => Err(Fault::SearchRefused(refusal)),
+    }
+}
+
+/// The last run that a board by names has for a point that is reached.
+fn check_looked_run<K: Named, R: HandoverRule>(
+    asked: &Question<K, R>,
+    labels: &[Option<K::Cost>],
+    point: u8,
+    reached: Reached<u64>,
+) -> Result<(), Fault> {
+    let Some(number) = reached.run else {
+        return if point == asked.home {
+            Ok(())
+        } else {
+            Err(Fault::LastRun)
+        };
+    };
+    let number = usize::from(number);
+    let run = asked.runs.get(number).ok_or(Fault::LastRun)?;
+    let label = labels.get(number).ok_or(Fault::LastRun)?;
+    if point == asked.home || run.head != point {
+        return Err(Fault::LastRun);
+    }
+    if label.map(|cost| K::told(cost)) != Some(reached.cost) {
+        return Err(Fault::LastRun);
+    }
+    Ok(())
+}
+
+/// The same survey by the names of kind and rule: the board has the least costs, and for each point a last run of that cost.
+pub fn check_looked<K: Named, R: HandoverRule>(
+    rig: &Rig<Show>,
+    rules: &Rules,
+    asked: &Question<K, R>,
+    labels: &[Option<K::Cost>],
+) -> Result<(), Fault> {
+    let mut board = [None; POINTS];
+    rules.look(rig, K::NAME, asked.home, &mut board)?;
+    for (point, place) in (0u8..).zip(&board) {
+        let least = least_to(asked, labels, point).map(|cost| K::told(cost));
+        if place.map(|reached| reached.cost) != least {
+            return Err(Fault::BoardPlace);
+        }
+        if let Some(reached) = place {
+            check_looked_run(asked, labels, point, *reached)?;
+        }
+    }
+    Ok(())
+}
+
+/// The same route as the programs ask it, by the names of kind and rule: its cost is the least, and its runs are a walk of that cost.
+pub fn check_asked<K: Named, R: HandoverRule>(
+    rig: &Rig<Show>,
+    rules: &Rules,
+    asked: &Question<K, R>,
+    labels: &[Option<K::Cost>],
+    mark: u8,
+) -> Result<(), Fault> {
+    let question = command::Question {
+        kind: K::NAME,
+        home: asked.home,
+        mark,
+    };
+    let least = least_to(asked, labels, mark);
+    match rules.ask(rig, question) {
+        Ok(route) => {
+            let Some(cost) = least else {
+                return Err(Fault::Way);
+            };
+            if route.cost != K::told(cost) {
+                return Err(Fault::NotLeast);
+            }
+            check_walk(asked, mark, route.runs.as_slice(), cost)
+        }
+        Err(SearchRefusal::NoWay) => {
+            if least.is_some() {
+                return Err(Fault::Way);
+            }
+            Ok(())
         }
         Err(refusal) => Err(Fault::SearchRefused(refusal)),
     }

@@ -16,6 +16,7 @@ mod trial;
 mod worked;
 
 use anyhow::anyhow;
+use desk::rules::Rules;
 use dice::Dice;
 use draw::{Drawn, draw_by_pair, draw_by_point, draw_flat, draw_rig};
 use fault::Fault;
@@ -24,6 +25,7 @@ use rehearsal::tally::Tally;
 use score::{KindScores, Log};
 use std::alloc::Global;
 use std::io;
+use tape::command::RuleName;
 use track::rig::{Rig, Show};
 use track::run::Run;
 use trial::{Trial, try_homes};
@@ -90,17 +92,26 @@ fn try_rig(dice: &mut Dice, number: usize, report: &mut Report) -> Result<(), Fa
     let flat = draw_flat(dice);
     let by_point = draw_by_point(dice)?;
     let by_pair = draw_by_pair(dice)?;
+    let rules_by = |in_force| Rules {
+        flat,
+        point: by_point,
+        pair: by_pair,
+        in_force,
+    };
     let mut trial = Trial {
         number,
         rule: "flat rule",
         rig: &rig,
         runs: &runs,
         points: &points,
+        rules: rules_by(RuleName::Flat),
     };
     try_kinds(&trial, &flat, report)?;
     trial.rule = "rule by point";
+    trial.rules = rules_by(RuleName::Point);
     try_kinds(&trial, &by_point, report)?;
     trial.rule = "rule by pair";
+    trial.rules = rules_by(RuleName::Pair);
     try_kinds(&trial, &by_pair, report)
 }
 

@@ -11,29 +11,29 @@ use std::alloc::Global;
 use track::rig::{Rig, Show};
 use walks::time::Time;
 
-/// The first refusal of a survey that applies on the map W, if one does.
-fn survey_refusal(home: u8, places: usize, room: usize) -> Option<SearchRefusal> {
+/// The number of the first refusal of a survey that applies on the map W, if one does.
+fn survey_refusal(home: u8, places: usize, room: usize) -> Option<u8> {
     if home > 127 {
-        Some(SearchRefusal::NoPoint)
+        Some(1)
     } else if places < 4 {
-        Some(SearchRefusal::TableShort)
+        Some(8)
     } else if room < 128 {
-        Some(SearchRefusal::BoardShort)
+        Some(10)
     } else {
         None
     }
 }
 
-/// The first refusal of a route that applies on the map W, if one does: from 0 each point to 3 is reached, from 127 only itself.
-fn route_refusal(home: u8, mark: u8, places: usize, room: usize) -> Option<SearchRefusal> {
+/// The number of the first refusal of a route that applies on the map W, if one does: from 0 each point to 3 is reached, from 127 only itself.
+fn route_refusal(home: u8, mark: u8, places: usize, room: usize) -> Option<u8> {
     if home > 127 || mark > 127 {
-        Some(SearchRefusal::NoPoint)
+        Some(1)
     } else if places < 4 {
-        Some(SearchRefusal::TableShort)
+        Some(8)
     } else if room < 4 {
-        Some(SearchRefusal::ListShort)
+        Some(9)
     } else if home != mark && (home != 0 || mark > 3) {
-        Some(SearchRefusal::NoWay)
+        Some(11)
     } else {
         None
     }
@@ -50,7 +50,7 @@ fn check_refused_survey(
     let mut table = marked_places(heap, &Time, places)?;
     let mut board = marked_places(heap, &Time, room)?;
     let refusal = survey(rig, &Time, &flat_at(25), home, &mut table, &mut board).err();
-    if refusal != survey_refusal(home, places, room) {
+    if refusal.map(u8::from) != survey_refusal(home, places, room) {
         return Err(Fault::OtherAnswer);
     }
     if refusal.is_some() {
@@ -72,7 +72,7 @@ fn check_refused_route(
     let mut table = marked_places(heap, &Time, places)?;
     let mut list = marked_numbers(heap, room)?;
     let refusal = route(rig, &Time, &flat_at(25), home, mark, &mut table, &mut list).err();
-    if refusal != route_refusal(home, mark, places, room) {
+    if refusal.map(u8::from) != route_refusal(home, mark, places, room) {
         return Err(Fault::OtherAnswer);
     }
     match refusal {

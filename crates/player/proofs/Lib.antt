@@ -1,3 +1,4 @@
+pub mod Replies
 pub mod Outcomes
 pub mod Turns
 pub mod Undisturbed

@@ -1,15 +1,8 @@
 -- What the code's desk holds, and what it makes of one command: for the inner functions of play.
-use Rattle.std.specs.Prelude.{◌≡◌, ℕ, cond, List, length, IfOk, Ok, Err, Option, Result, nat_le}
-use Rattle.track.specs.Sizes.{most_runs}
-use Rattle.track.specs.Answers.{gave, refused}
+use Rattle.std.specs.Prelude.{◌≡◌, ℕ, cond, List, length, IfOk, Ok, Err, Result, nat_le}
 use Rattle.track.specs.Calls.{map_of}
-use Rattle.routing.specs.declared.refusal.SearchRefusal.{SearchRefusal}
-use Rattle.routing.specs.Refusals.{number}
-use Rattle.routing.specs.Route.{route_checks}
-use Rattle.tape.specs.declared.command.KindName.{KindName}
 use Rattle.tape.specs.Refusals.{cause_number}
 use Rattle.tape.specs.Reading.{Read}
-use Rattle.desk.specs.declared.ask.Route.{Route}
 use Rattle.desk.specs.Desks.{Desk, Reply, RightReply}
 use Rattle.desk.specs.Asking.{desk_of}
 use Rattle.player.specs.declared.fault.Layer.{Layer}
@@ -17,7 +10,7 @@ use Rattle.player.specs.declared.keeping.Desk.{Desk as DeskKept}
 use Rattle.player.specs.declared.play.Turn.{Turn}
 use Rattle.player.specs.Faults.{LayerName, in_tape, in_listing, layer_number, layer_name}
 use Rattle.player.specs.Lines.{line_of}
-use Rattle.player.specs.Writing.{reply_of, line_left}
+use Rattle.player.specs.Writing.{line_left}
 use Rattle.player.specs.Play.{Step, step, done, failed, asked}
 
 -- the desk that the code keeps
@@ -31,11 +24,6 @@ ToldTurn = Result ℕ (ℕ × LayerName)
 abbrev pub told_turn : Result ℕ Layer → ToldTurn
 told_turn (Ok n) = Ok n
 told_turn (Err e) = Err (layer_number e, layer_name e)
-
--- What a question answers on the desk d, before it is told: a right reply, or the refusal that applies before any search.
-abbrev pub Found : Desk → KindName → (home mark : ℕ) → Result (Option Route) SearchRefusal → Type 0
-Found d kind home mark (Ok route) = (route_checks d.map home mark most_runs most_runs ≡ gave tt) × RightReply d kind home mark (reply_of route)
-Found d kind home mark (Err e) = route_checks d.map home mark most_runs most_runs ≡ refused (number e)
 
 -- the length of a line that fits, or else the fault 18
 abbrev pub line_told : (line was : List ℕ) → ToldTurn

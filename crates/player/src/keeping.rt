@@ -3,21 +3,25 @@ ghost use Rattle.track.specs.Calls.{map_of};
 ghost use Rattle.tape.specs.Commands.{said, ask};
 ghost use Rattle.desk.specs.Desks.{new_desk};
 ghost use Rattle.player.specs.Play.{step};
-ghost use Rattle.player.specs.Obeying.{desk_in, told_turn, Found, Obeyed};
+ghost use Rattle.player.specs.Obeying.{desk_in, told_turn, Obeyed};
 
 use crate::fault::Layer;
-use crate::listing::write_line;
+use crate::listing::{LINE, write_line};
+use arrayvec::ArrayString;
 use desk::ask::Route;
 use desk::rules::Rules;
 use routing::refusal::SearchRefusal;
 use tape::command::{Command, Question};
 use track::rig::{GetIn, Rig};
 
-/// What a play keeps: the rig in get-in, and the rules.
+/// What a play keeps: the rig in get-in, and the rules; and the room in which it finds a route and writes a line, which says nothing between two commands.
 #[derive(Drop)]
 pub(crate) struct Desk {
     rig: Rig<GetIn>,
     rules: Rules,
+    // Kept, since to clear them for each question would take longer than the search on a small rig.
+    route: Route,
+    line: ArrayString<LINE>,
 }
 
 impl Desk {
@@ -28,6 +32,8 @@ impl Desk {
         Desk {
             rig: Rig::new(),
             rules: Rules::new(),
+            route: Route::new(),
+            line: ArrayString::new(),
         }
     }
 
@@ -35,7 +41,12 @@ impl Desk {
     pub(crate) fn into_rig(self) -> Rig<GetIn>
         ensures { map_of result ≡ (desk_in self).map }
     {
-        let Desk { rig, rules: _ } = self;
+        let Desk {
+            rig,
+            rules: _,
+            route: _,
+            line: _,
+        } = self;
         rig
     }
 
@@ -76,19 +87,12 @@ impl Desk {
     fn answer(&mut self, question: Question, rest: &mut [u8]) -> Result<usize, Layer>
         ensures { Obeyed (step (desk_in self.old) (ask question.kind question.home question.mark)) (desk_in self.old) rest.old (told_turn result) (desk_in self.new) rest.new }
     {
-        let route = self.find(question)?;
-        Ok(write_line(rest, question, route.as_ref())?)
-    }
-
-    /// Asks a route of the rig: none where there is no way.
-    fn find(&mut self, question: Question) -> Result<Option<Route>, SearchRefusal>
-        ensures found { Found (desk_in self.old) question.kind question.home question.mark result }
-        ensures same { desk_in self.new ≡ desk_in self.old }
-    {
-        match self.rules.ask_of(&mut self.rig, question) {
-            Ok(route) => Ok(Some(route)),
-            Err(SearchRefusal::NoWay) => Ok(None),
-            Err(refusal) => Err(refusal),
+        let line = &mut self.line;
+        let rules = &self.rules;
+        match rules.ask_of_into(&mut self.rig, question, &mut self.route) {
+            Ok(()) => Ok(write_line(line, rest, question, Some(&self.route))?),
+            Err(SearchRefusal::NoWay) => Ok(write_line(line, rest, question, None)?),
+            Err(refusal) => Err(Layer::Search(refusal)),
         }
     }
 }

@@ -11,12 +11,13 @@ use tape::command::Question;
 use track::run::MOST_RUNS;
 
 /// What the longest line takes: kind, home and mark, the cost, the number of runs, 256 runs, and the line's end.
-const LINE: usize = 1 + 2 * 4 + 21 + 4 + MOST_RUNS * 6 + 1;
+pub(crate) const LINE: usize = 1 + 2 * 4 + 21 + 4 + MOST_RUNS * 6 + 1;
 
 /// Writes the line that tells the reply to a question at the beginning of `out` and answers its length.
 ///
-/// Writes nothing where the line does not fit.
+/// Writes nothing where the line does not fit. The line is made in `line`, whatever that held.
 pub(crate) fn write_line(
+    line: &mut ArrayString<LINE>,
     out: &mut [u8],
     question: Question,
     route: Option<&Route>,
@@ -24,7 +25,8 @@ pub(crate) fn write_line(
     ensures value { result ≡ line_answer (line_of question.kind question.home question.mark (reply_of (option_copied route.entry))) out.old }
     ensures after { out.new ≡ line_left (line_of question.kind question.home question.mark (reply_of (option_copied route.entry))) out.old }
 {
-    let line = line_of(question, route);
+    line.clear();
+    put_line(line, question, route);
     let text = line.as_str().as_bytes();
     if text.len() > out.len() {
         return Err(ListingCause::NoRoom);
@@ -33,18 +35,17 @@ pub(crate) fn write_line(
     Ok(text.len())
 }
 
-/// The line that tells the reply to a question: a route, or that there is no way.
-fn line_of(question: Question, route: Option<&Route>) -> ArrayString<LINE>
-    ensures { result.bytes ≡ line_of question.kind question.home question.mark (reply_of (option_copied route.entry)) }
+/// Writes the line that tells the reply to a question: a route, or that there is no way.
+fn put_line(line: &mut ArrayString<LINE>, question: Question, route: Option<&Route>)
+    requires { line.old.bytes ≡ [] }
+    ensures { line.new.bytes ≡ line_of question.kind question.home question.mark (reply_of (option_copied route.entry)) }
 {
-    let mut line = ArrayString::new();
-    put_question(&mut line, question);
+    put_question(line, question);
     match route {
-        Some(route) => put_route(&mut line, route),
+        Some(route) => put_route(line, route),
         None => line.push_str(" no way"),
     }
     line.push('\n');
-    line
 }
 
 /// Appends kind, home and mark.

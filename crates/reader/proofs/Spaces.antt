@@ -13,7 +13,7 @@ cut : (t : Bool) (b : ℕ) (bs w r : List ℕ) → w ++ r ≡ bs → cond t [] (
 cut true b bs w r e = refl
 cut false b bs w r e = ap (λ z. b ∷ z) e
 
-word_behind : (bs : List ℕ) → word bs ++ behind bs ≡ bs
+pub word_behind : (bs : List ℕ) → word bs ++ behind bs ≡ bs
 word_behind [] = refl
 word_behind (b ∷ bs) = cut (eqb b 32) b bs (word bs) (behind bs) (word_behind bs)
 

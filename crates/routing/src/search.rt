@@ -65,6 +65,14 @@ fn begin_all<K: CostKind, R>(task: &Task<K, R>, table: &mut [Place<K::Cost>])
     }
 }
 
+// Of its own, though it asks `is_lower` alone, so that an edit that takes the highest first is refused by a clause of its own.
+/// Whether a run with this label goes before the lowest that waits so far.
+fn goes_first<K: CostKind>(kind: &K, label: K::Cost, lowest: Option<K::Cost>) -> bool
+    ensures { result ≡ lower (K.CostKind.meaning kind.now).at_most label lowest }
+{
+    is_lower(kind, label, lowest)
+}
+
 /// A waiting run with a lowest label, if any labelled run waits.
 fn next_waiting<K: CostKind>(
     kind: &K,
@@ -79,7 +87,7 @@ fn next_waiting<K: CostKind>(
     for (run, place) in table.iter().enumerate() {
         if !taken[run] {
             if let Some(place) = place {
-                if is_lower(kind, place.cost, lowest.map(|low| low.cost)) {
+                if goes_first(kind, place.cost, lowest.map(|low| low.cost)) {
                     lowest = Some(Waiting {
                         run,
                         cost: place.cost,

@@ -7,7 +7,7 @@ use Rattle.track.specs.Map.Call.{Lay, Strike, Retime, Name}
 
 -- the map that a rig holds
 abbrev pub map_of : {S : Type 0} → Rig S → Map
-map_of r = record { runs = r.table.runs.items; names = r.names }
+map_of r = record { runs = r.layout.table.runs.items; names = r.layout.names }
 
 abbrev pub afters : Map → List Call → Map
 afters m [] = m

@@ -7,7 +7,7 @@ ghost use Rattle.track.specs.Map.Call.{Lay, Strike, Retime, Name, Open};
 ghost use Rattle.track.specs.Calls.{map_of, LeftBy, LayDone, StrikeDone, RetimeDone, NameDone};
 
 use crate::refusal::MapRefusal;
-use crate::rig::{GetIn, Rig, Show};
+use crate::rig::{GetIn, Layout, Rig, Show};
 use crate::run::{MOST_RUNS, MOST_STRAIN, NO_NAME, POINTS, Run, RunTable, WINCHES};
 use arrayvec::ArrayVec;
 use std::marker::PhantomData;
@@ -19,10 +19,12 @@ impl Rig<GetIn> {
         ensures law { LeftBy [] (map_of result) }
     {
         Rig {
-            table: RunTable {
-                runs: ArrayVec::new(),
+            layout: Layout {
+                table: RunTable {
+                    runs: ArrayVec::new(),
+                },
+                names: [NO_NAME; POINTS],
             },
-            names: [NO_NAME; POINTS],
             state: PhantomData,
         }
     }
@@ -44,7 +46,7 @@ impl Rig<GetIn> {
         ensures law { (calls : List Call) → LeftBy calls (map_of self.old) → LeftBy (calls ++ Lay tail head winch time strain ∷ []) (map_of self.new) }
     {
         let number = self.number_for(tail, head, winch, strain)?;
-        self.table.runs.push(Run {
+        self.layout.table.runs.push(Run {
             tail,
             head,
             winch,
@@ -71,7 +73,7 @@ impl Rig<GetIn> {
         if strain > MOST_STRAIN {
             return Err(MapRefusal::StrainTooHigh);
         }
-        let laid = self.table.runs.len();
+        let laid = self.layout.table.runs.len();
         if laid >= MOST_RUNS {
             return Err(MapRefusal::MapFull);
         }
@@ -85,7 +87,7 @@ impl Rig<GetIn> {
         ensures done { StrikeDone (map_of self.old) run (told number result) (map_of self.new) }
         ensures law { (calls : List Call) → LeftBy calls (map_of self.old) → LeftBy (calls ++ Strike run ∷ []) (map_of self.new) }
     {
-        self.table.in_use(run)?.struck = true;
+        self.layout.table.in_use(run)?.struck = true;
         Ok(())
     }
 
@@ -96,7 +98,7 @@ impl Rig<GetIn> {
         ensures done { RetimeDone (map_of self.old) run time (told number result) (map_of self.new) }
         ensures law { (calls : List Call) → LeftBy calls (map_of self.old) → LeftBy (calls ++ Retime run time ∷ []) (map_of self.new) }
     {
-        self.table.in_use(run)?.time = time;
+        self.layout.table.in_use(run)?.time = time;
         Ok(())
     }
 
@@ -111,7 +113,7 @@ impl Rig<GetIn> {
         if point >= POINTS {
             return Err(MapRefusal::NoPoint);
         }
-        self.names[point] = name_of(text).ok_or(MapRefusal::BadName)?;
+        self.layout.names[point] = name_of(text).ok_or(MapRefusal::BadName)?;
         Ok(())
     }
 

@@ -16,17 +16,23 @@ pub struct GetIn;
 #[derive(Drop)]
 pub struct Show;
 
+/// What a rig holds in either state, in one piece, so that a change of state moves it as one.
+#[derive(Drop)]
+pub(crate) struct Layout {
+    pub(crate) table: RunTable,
+    pub(crate) names: [[u8; 8]; POINTS],
+}
+
 /// A rig in the state `S`: the runs laid and the name of each point.
 // Clauses see its map by `map_of`, and no model: theorems on any rig, in crates above, rest on its ghost fields, which a model would keep from them.
 #[derive(Drop)]
 pub struct Rig<S> {
-    pub(crate) table: RunTable,
-    pub(crate) names: [[u8; 8]; POINTS],
+    pub(crate) layout: Layout,
     pub(crate) state: PhantomData<S>,
-    ghost room: { array_vec_len table.runs ≤ most_runs },
-    ghost named: { length names ≡ points },
-    ghost sound: { (k : ℕ) → k < array_vec_len table.runs → run_ok (slice_index_or table.runs.items k idle) ≡ true },
-    ghost legible: { (p : ℕ) → p < points → name_ok (slice_index_or names p []) ≡ true },
+    ghost room: { array_vec_len layout.table.runs ≤ most_runs },
+    ghost named: { length layout.names ≡ points },
+    ghost sound: { (k : ℕ) → k < array_vec_len layout.table.runs → run_ok (slice_index_or layout.table.runs.items k idle) ≡ true },
+    ghost legible: { (p : ℕ) → p < points → name_ok (slice_index_or layout.names p []) ≡ true },
 }
 
 impl<S> Rig<S> {
@@ -37,7 +43,7 @@ impl<S> Rig<S> {
         ensures value { result.now ≡ (map_of self.now).runs }
         ensures bound { length result.now ≤ most_runs }
     {
-        self.table.runs.as_slice()
+        self.layout.table.runs.as_slice()
     }
 
     /// The name of each point.
@@ -45,21 +51,16 @@ impl<S> Rig<S> {
         ensures value { result.now ≡ (map_of self.now).names }
         ensures len { length result.now ≡ points }
     {
-        &self.names
+        &self.layout.names
     }
 
     /// The same rig in another state.
     pub(crate) fn into_state<T>(self) -> Rig<T>
         ensures { map_of result ≡ map_of self }
     {
-        let Rig {
-            table,
-            names,
-            state: _,
-        } = self;
+        let Rig { layout, state: _ } = self;
         Rig {
-            table,
-            names,
+            layout,
             state: PhantomData,
         }
     }

@@ -2,7 +2,7 @@
 use crate::report::Report;
 use track::refusal::MapRefusal;
 use track::rig::{GetIn, Rig};
-use track::run::{MOST_RUNS, NO_NAME, Run};
+use track::run::{MOST_RUNS, Run};
 
 /// A call on the map. A tape's command has a byte for a run, and these go further.
 #[derive(Clone, Copy, Drop)]
@@ -181,7 +181,7 @@ fn name_after(point: usize) -> [u8; 8] {
         0 => *b"~PSTAGE ",
         1 => *b"DOCK 2  ",
         127 => *b" PSTAGE~",
-        _ => NO_NAME,
+        _ => [b' '; 8],
     }
 }
 

@@ -2,8 +2,12 @@
 use crate::report::Report;
 use crate::tapes::{UNWRITTEN, begins_with, rig_of};
 use player::play::play;
-use tape::write::{LONGEST, write};
+use tape::write::write;
 use track::rig::{GetIn, Rig};
+
+/// The most bytes that a tape has: 256 runs, all struck, and 128 names.
+// Written out, as all that is expected here is, and not taken from what is tried.
+const LONGEST: usize = 256 * 9 + 128 * 10;
 
 /// Room for each tape here but the longest.
 const ROOM: usize = 64;

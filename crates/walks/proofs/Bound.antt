@@ -76,7 +76,7 @@ module _ (m : List Run) (few-laid : length m ≤ most_runs) (in-time : (r : ℕ)
 -- the map of a rig, in either state
 no_stop_of : {S : Type 0} (rig : Rig S) → NoStopOver (map_of rig).runs
 no_stop_of rig =
-    let rs = rig.table.runs.items in
+    let rs = rig.layout.table.runs.items in
     unstopped rs rig.room (λ r. elim (cases_lt r (length rs)) [
       | inl lt ↦ (let s = rig.sound r lt in
           let e : run_at rs r ≡ get_or rs r idle = get_or_default rs r not_laid idle (omega arith) in

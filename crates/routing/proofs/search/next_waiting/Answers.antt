@@ -5,7 +5,7 @@ use Rattle.walks.proofs.Ways.{none_some}
 use Rattle.routing.specs.Steps.{cost_in, label, taken_at}
 use Rattle.routing.proofs.Loops.{Best, best_skip, best_keep, best_take}
 use Rattle.routing.proofs.search.next_waiting.Goals as goal
-use Rattle.routing.proofs.search.next_waiting.Goals.{then-not-taken-run+in-Some+then-is_lower, then-not-taken-run+in-Some+else-is_lower, then-not-taken-run+in_default, else-not-taken-run}
+use Rattle.routing.proofs.search.next_waiting.Goals.{then-not-taken-run+in-Some+then-goes_first, then-not-taken-run+in-Some+else-goes_first, then-not-taken-run+in_default, else-not-taken-run}
 
 pub loop-run-preserved : goal.loop-run-preserved
 loop-run-preserved g c =
@@ -17,10 +17,10 @@ loop-run-preserved g c =
     let found = c.loop-run.lowest in
     let here : label t i ≡ cost_in c.index-table-run.result = ap cost_in (get_or_default t i None c.index-table-run.result c.loop-run-test.true ∙ sym c.index-table-run.is) in
     elim c.if-not-taken-run.branch [
-      | then-not-taken-run+in-Some+then-is_lower w ↦ subst (Best k.at_most t d (i + 1)) (sym w.lowest-is)
-          (best_take laws t d i found w.map.result w.in-Some.place.cost (search (rules, of_calls)) (sym w.if-is_lower.ensures) w.if-not-taken-run.true (here ∙ ap cost_in w.in-Some.is) c.loop-run.invariant)
-      | then-not-taken-run+in-Some+else-is_lower w ↦ subst (Best k.at_most t d (i + 1)) (sym w.lowest-is)
-          (best_keep laws t d i found w.map.result w.in-Some.place.cost (search (rules, of_calls)) (sym w.if-is_lower.ensures) (here ∙ ap cost_in w.in-Some.is) c.loop-run.invariant)
+      | then-not-taken-run+in-Some+then-goes_first w ↦ subst (Best k.at_most t d (i + 1)) (sym w.lowest-is)
+          (best_take laws t d i found w.map.result w.in-Some.place.cost (search (rules, of_calls)) (sym w.if-goes_first.ensures) w.if-not-taken-run.true (here ∙ ap cost_in w.in-Some.is) c.loop-run.invariant)
+      | then-not-taken-run+in-Some+else-goes_first w ↦ subst (Best k.at_most t d (i + 1)) (sym w.lowest-is)
+          (best_keep laws t d i found w.map.result w.in-Some.place.cost (search (rules, of_calls)) (sym w.if-goes_first.ensures) (here ∙ ap cost_in w.in-Some.is) c.loop-run.invariant)
       | then-not-taken-run+in_default w ↦ subst (Best k.at_most t d (i + 1)) (sym w.lowest-is)
           (best_skip laws t d i found (λ x f is. none_some (label t i) x (here ∙ ap cost_in w.in_default.is) is) c.loop-run.invariant)
       | else-not-taken-run w ↦ subst (Best k.at_most t d (i + 1)) (sym w.lowest-is)

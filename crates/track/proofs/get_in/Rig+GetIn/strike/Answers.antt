@@ -1,6 +1,6 @@
 use Rattle.std.proofs.Common.{rules}
 use Rattle.track.specs.Runs.{run_ok, idle}
-use Rattle.track.proofs.Lists.{test_set}
+use Rattle.track.proofs.Lists.{test_set_all}
 use Rattle.track.proofs.History.{one_more}
 use Rattle.track.proofs.get_in.Rig+GetIn.strike.Goals as goal
 
@@ -12,4 +12,4 @@ returns-clause-law c = one_more _ _ _ (search rules)
 
 pub invariant_of-self-2-clause-sound : goal.invariant_of-self-2-clause-sound
 invariant_of-self-2-clause-sound c k h =
-    test_set run_ok c.args.run c.args.self.now.table.runs.items _ idle (search rules) (search rules) c.args.self.now.sound k h
+    test_set_all run_ok c.args.run c.args.self.now.layout.table.runs.items _ idle (search rules) (search rules) c.args.self.now.sound k h
