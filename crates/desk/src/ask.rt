@@ -1,5 +1,4 @@
 ghost use Rattle.std.specs.Prelude.{◌≡◌, ◌≤◌, [], length, OnErr};
-ghost use Rattle.track.specs.Sizes.{most_runs};
 ghost use Rattle.track.specs.Calls.{map_of};
 ghost use Rattle.desk.specs.Asking.{desk_of, told_route, told_in, AskDone};
 
@@ -14,7 +13,7 @@ use tape::command::Question;
 use track::rig::{GetIn, Rig, Show};
 use track::run::MOST_RUNS;
 
-/// Up to so many runs a question is asked on a table and a list for these alone: on a small rig, to clear them for every run would take longer than the search.
+/// Up to so many runs a question is asked on a table for these alone: on a small rig, to clear one for every run would take longer than the search.
 const FEW_RUNS: usize = 32;
 
 /// A route that was found: what it costs, and its runs in hauling order.
@@ -61,39 +60,27 @@ impl Rules {
         ensures kept { OnErr result (route.new ≡ route.old) }
     {
         if show.runs().len() <= FEW_RUNS {
-            self.ask_on(
-                show,
-                question,
-                &mut [None; FEW_RUNS],
-                &mut [0; FEW_RUNS],
-                route,
-            )
+            self.ask_on(show, question, &mut [None; FEW_RUNS], route)
         } else {
-            self.ask_on(
-                show,
-                question,
-                &mut [None; MOST_RUNS],
-                &mut [0; MOST_RUNS],
-                route,
-            )
+            self.ask_on(show, question, &mut [None; MOST_RUNS], route)
         }
     }
 
-    /// The same on a work table and a list that have room for the runs laid.
+    /// The same on a work table that has room for the runs laid.
     fn ask_on(
         &self,
         show: &Rig<Show>,
         question: Question,
         table: &mut [Place<u64>],
-        list: &mut [u16],
         found: &mut Route,
     ) -> Result<(), SearchRefusal>
-        requires { (length (map_of show.now).runs ≤ length table.old) × (length (map_of show.now).runs ≤ length list.old) × (length list.old ≤ most_runs) }
+        requires { length (map_of show.now).runs ≤ length table.old }
         ensures done { AskDone (desk_of (map_of show.now) self.now) question.kind question.home question.mark (told_in result found.new) }
         ensures kept { OnErr result (found.new ≡ found.old) }
     {
         let Question { kind, home, mark } = question;
-        let (count, cost) = route(show, &ByName(kind), self, home, mark, table, list)?;
+        let mut list = [0u16; MOST_RUNS];
+        let (count, cost) = route(show, &ByName(kind), self, home, mark, table, &mut list)?;
         found.cost = cost;
         found.runs.clear();
         // There is room for every run that can be laid.

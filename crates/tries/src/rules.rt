@@ -89,15 +89,22 @@ fn set(rules: &mut Rules, setting: Setting) -> Result<(), RuleRefusal> {
     }
 }
 
-/// Whether two rules give the same answers at all joints of two winches at all points.
+/// Whether two rules give the same answers at all joints of two winches at a point.
+// By loops: three closures inside one another took half as long again, and this is most of what the program does.
+fn agree_at<R: HandoverRule>(one: &R, other: &R, point: u8) -> bool {
+    for arriving in 0..16 {
+        for leaving in 0..16 {
+            if one.ask(point, arriving, leaving) != other.ask(point, arriving, leaving) {
+                return false;
+            }
+        }
+    }
+    true
+}
+
+/// The same at all points.
 fn agree<R: HandoverRule>(one: &R, other: &R) -> bool {
-    (0..128).all(|point| {
-        (0..16).all(|arriving| {
-            (0..16).all(|leaving| {
-                one.ask(point, arriving, leaving) == other.ask(point, arriving, leaving)
-            })
-        })
-    })
+    (0..128).all(|point| agree_at(one, other, point))
 }
 
 fn ask_all(rules: &mut Rules, table: &[Asked], report: &mut Report) {
